@@ -12,6 +12,8 @@ OF_CALLEES = re.compile(r"(; )?(it calls|it passes|a call of) .*?, which (is|are
 WRONG = re.compile(r"(?m)^(?:\./)?(\S+):\d+:\d+: error: (?:`([^`]*)`: )?(.*)$")
 # A proof that names what the edit took away: such an error says little of the contract.
 NAME_IS_GONE = re.compile(r"has no field|is not in scope|has no `|was not admitted")
+# A long error of this kind goes on in the next line.
+GOES_ON = re.compile(rf"\n +(?={NAME_IS_GONE.pattern})")
 # What rests on a declaration that fell is not checked: no fault of its own.
 OF_OTHERS = re.compile(r"^\d+ declarations? that depends? on ")
 ENDED = re.compile(r"(?m)^(logic=(not-)?proved|only=)")
@@ -25,7 +27,7 @@ class Said:
         self.reaches_prover = bool(ENDED.search(text))
         self.first_error = (re.findall(r"(?m)^\S*:\d+:\d+: error.*", text) or text.split("\n"))[0][:300]
         self.answers, self.lemmas = collections.defaultdict(list), {}
-        for file, name, why in WRONG.findall(text):
+        for file, name, why in WRONG.findall(GOES_ON.sub(" ", text)):
             if name or NAME_IS_GONE.search(why) and not OF_OTHERS.search(why):
                 self.answers[os.path.dirname(file)].append((name or "use", why))
             if name and os.path.basename(file) not in PROOF_FILES:

@@ -20,12 +20,14 @@ import gakyhera
 from tests.library.cases import answers_of, examples, sessions
 from tests.scripts.fold import reference as fold_reference
 from tests.scripts.turns import reference as turns_reference
-from tests.sessions.trials import SHOW, lines_of
+from tests.sessions.trials import CLUSTER, SHOW, lines_of
 from tools.random_scripts import CYCLES, drawn
 
 SECOND = {"fold": fold_reference.answer, "turns": turns_reference.answer}
 CALLS = {"fold": gakyhera.fold, "turns": gakyhera.turns}
 THREADS = 4
+# so many asked keys take over a megabyte
+LONG = 300_000
 # stands in for proxy_session
 PROGRAM = """#!/bin/sh
 cd %s && exec %s -B -m tests.sessions.reference
@@ -54,11 +56,23 @@ def wrong_words():
 
 
 def wrong_long_texts():
-    """Words about scripts whose texts are longer than themselves, and than the room that there is at first."""
-    for count in (10, 10_000, 100_000, 10):
+    """Words about scripts whose texts are longer than themselves, and than the room that there is at first; the longest
+    script has over a megabyte.
+    """
+    for count in (10, 10_000, LONG, 10):
         script = b'{"resolvers":1,"rows":[],"ask":[%s]}' % b",".join([b'"k"'] * count)
         if gakyhera.fold(script) != (SECOND["fold"](script).encode(), False):
             yield "%d asked keys: another text" % count
+
+
+def wrong_long_answers():
+    """Words about a session in which a line has over a megabyte, and its answer more."""
+    lines = [CLUSTER, b'{"show":{"proxy":0,"ask":[%s]}}' % b",".join([b'"k"'] * LONG), SHOW]
+    with gakyhera.Session() as session:
+        for line, right in zip(lines, answers_of(lines)):
+            given = session.line(line)
+            if given != right:
+                yield "%.200r: %d bytes, and must be %d: %.200r" % (line, len(given), len(right), given)
 
 
 def wrong_sessions():
@@ -167,7 +181,8 @@ def tried_random(seeds):
 def main():
     seeds = int(sys.argv[1])
     wrong = [*wrong_examples(), *wrong_words(), *wrong_long_texts(), *wrong_in_threads(), *tried_random(seeds)]
-    wrong += [*wrong_sessions(), *wrong_closed_sessions(), *wrong_program_sessions(), *tried_lines(seeds)]
+    wrong += [*wrong_sessions(), *wrong_long_answers(), *wrong_closed_sessions(), *wrong_program_sessions()]
+    wrong += tried_lines(seeds)
     for words in wrong[:20]:
         print(words)
     return 1 if wrong else 0

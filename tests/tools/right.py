@@ -54,10 +54,12 @@ def a_stale_page_is_found():
             stored.FOLDER = kept
 
 
-def the_layers_are_up_to_date():
-    drawn = subprocess.run([os.path.join(ROOT, "tools", "layers")], capture_output=True, text=True, timeout=60)
-    with open(os.path.join(ROOT, "docs", "layers.svg")) as kept:
-        want(drawn.returncode == 0 and drawn.stdout == kept.read(), "docs/layers.svg is old: tools/layers > docs/layers.svg")
+def what_is_made_of_the_crates_is_up_to_date():
+    for name, page in (("layers", "docs/layers.svg"), ("file_map", "crates/README.md")):
+        made = subprocess.run([os.path.join(ROOT, "tools", name)], capture_output=True, text=True, timeout=60)
+        want(made.returncode == 0, made.stderr)
+        with open(os.path.join(ROOT, page)) as kept:
+            want(made.stdout == kept.read(), f"{page} is old: tools/{name} > {page}")
 
 
 def stored_pages_are_small():
@@ -202,7 +204,7 @@ def windows_cut_threads():
 def checks():
     """Each check with its name."""
     for check in (
-        stored_pages_are_up_to_date, a_stale_page_is_found, the_layers_are_up_to_date, stored_pages_are_small,
+        stored_pages_are_up_to_date, a_stale_page_is_found, what_is_made_of_the_crates_is_up_to_date, stored_pages_are_small,
         overlapping_words_are_found, a_large_script_is_drawn_soon, a_large_cluster_is_drawn, windows_cut, flags_cut,
         windows_cut_threads,
     ):

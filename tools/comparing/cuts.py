@@ -1,7 +1,7 @@
 """Ways to leave parts out of a script: each takes a shrinker and a script's value, and returns the smaller value."""
 import copy
 
-from tests.scripts.common.script import write
+from tests.scripts.common.script import at, write
 from tests.scripts.fold.reference import Refused, read_json, read_script
 from tests.scripts.threads.reference import read_threads
 from tests.scripts.turns.reference import read_turns
@@ -35,14 +35,8 @@ def places_of(value, name, path=()):
                 yield (*path, field)
             yield from places_of(inner, name, (*path, field))
     elif isinstance(value, list):
-        for at, inner in enumerate(value):
-            yield from places_of(inner, name, (*path, at))
-
-
-def at(value, path):
-    for step in path:
-        value = value[step]
-    return value
+        for place, inner in enumerate(value):
+            yield from places_of(inner, name, (*path, place))
 
 
 def without_items(value, listed, gone):

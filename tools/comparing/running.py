@@ -7,6 +7,8 @@ import subprocess
 import time
 from typing import NamedTuple
 
+from tests.watched import file_of
+
 CHUNK = 65536
 # how many bytes of standard error are kept, from its end
 KEPT = 4096
@@ -32,14 +34,6 @@ class Ended(NamedTuple):
     status: int
     # words about a run that was ended by this tool: `hangs` or `prints to no end`
     stopped: str
-
-
-def file_of(script):
-    """A file with the script, in memory, so that it does not matter whether the command reads it."""
-    file = os.fdopen(os.memfd_create("script"), "w+b")
-    file.write(script)
-    file.seek(0)
-    return file
 
 
 def run(words, script, seconds, most):

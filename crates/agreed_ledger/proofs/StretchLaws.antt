@@ -10,8 +10,8 @@ use Rattle.facts.specs.declared.fact.Fact.{Fact}
 use Rattle.facts.specs.Stretches.{Stretch, StretchesAgree, HasAt, Lacks, end_of, part_first, part_end, part_of, rest_from, extended, cells, cells_of, values, values_of}
 use Rattle.std.proofs.lemmas.Option.{slice_get_within}
 use Rattle.facts.specs.Unsets.{IfTaken}
-use Rattle.facts.specs.declared.setting.Unset.{Unset}
-use Rattle.facts.specs.declared.setting.Unset.TheVariants.{Taken}
+use Rattle.facts.specs.declared.setting.NotSet.{NotSet}
+use Rattle.facts.specs.declared.setting.NotSet.TheVariants.{Taken}
 use Rattle.once_cell.specs.Once.{Agrees}
 use Rattle.agreed_ledger.specs.Cells.{AreAbout, IsWithin, NoteAgreesWith, NoteView}
 use Rattle.agreed_ledger.proofs.CellLaws.{mapped_at}
@@ -154,5 +154,5 @@ lacking_agrees note s (inr after) x has =
 
 -- ---- refusals
 
-pub taken_cell : {T : Type 0} (why : Unset (Fact T)) (fact : Fact T) (cell : ℕ) → why ≡ Taken fact → IfTaken why (λ f. f.cell ≡ cell) → fact.cell ≡ cell
-taken_cell {T} why fact cell is taken = subst (λ (w : Unset (Fact T)). IfTaken w (λ (f : Fact T). f.cell ≡ cell)) is taken
+pub taken_cell : {T : Type 0} (why : NotSet (Fact T)) (fact : Fact T) (cell : ℕ) → why ≡ Taken fact → IfTaken why (λ f. f.cell ≡ cell) → fact.cell ≡ cell
+taken_cell {T} why fact cell is taken = subst (λ (w : NotSet (Fact T)). IfTaken w (λ (f : Fact T). f.cell ≡ cell)) is taken

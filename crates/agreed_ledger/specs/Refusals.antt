@@ -1,7 +1,7 @@
 -- The numbers and names of refusals (this project's profile).
 use Rattle.std.specs.Prelude.{ℕ, List, codes, Option, Some, None}
-use Rattle.facts.specs.declared.setting.Unset.{Unset}
-use Rattle.facts.specs.declared.setting.Unset.TheVariants as unset
+use Rattle.facts.specs.declared.setting.NotSet.{NotSet}
+use Rattle.facts.specs.declared.setting.NotSet.TheVariants as unset
 use Rattle.agreed_ledger.specs.declared.refusal.Refusal.{Refusal}
 use Rattle.agreed_ledger.specs.declared.refusal.Refusal.TheVariants.{BadConfig, NoSuchResolver}
 use Rattle.agreed_ledger.specs.declared.refusal.Refusal.TheVariants.{NoSuchProxy, LedgerFull}
@@ -35,6 +35,6 @@ refusal_fault OutOfMemory = None
 refusal_fault refusal = Some refusal
 
 -- the refusal that says why a cell was not set
-abbrev pub refusal_of : {K : Type 0} → Unset K → Refusal
+abbrev pub refusal_of : {K : Type 0} → NotSet K → Refusal
 refusal_of unset.OutOfMemory = OutOfMemory
 refusal_of (unset.Taken known) = CellTaken

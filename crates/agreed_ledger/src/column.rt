@@ -1,4 +1,4 @@
-//! What is kept of one resolver's verdicts in consecutive rows.
+//! The facts about one resolver's verdicts in consecutive rows, and setting the next verdicts.
 
 ghost use Rattle.std.specs.Prelude.{
   ◌≡◌,
@@ -25,7 +25,7 @@ use crate::ledger::Ledger;
 use crate::naming::Naming;
 use crate::notes::VerdictNote;
 use crate::refusal::Refusal;
-use facts::{Fact, Stretch, Unset};
+use facts::{Fact, NotSet, Stretch};
 use model::{ResolverNumber, RowNumber};
 use share_judge::Verdicts;
 use std::alloc::Global;
@@ -186,7 +186,7 @@ impl<N: Naming> Column<N> {
         &mut self,
         ledger: &Ledger<N>,
         verdicts: Verdicts,
-    ) -> Result<Column<N>, (Unset<VerdictNote<N>>, Verdicts)>
+    ) -> Result<Column<N>, (NotSet<VerdictNote<N>>, Verdicts)>
         requires { end_of self.old.rows < length (verdict_cells N.cells self.old.resolver) }
         ensures gained { IfOk result (λ _.
             self.new ≡ with_rows self.old (appended self.old.rows verdicts)) }
@@ -202,7 +202,7 @@ impl<N: Naming> Column<N> {
         let stretch = match self.stretch.set_next_and_copy(cell, verdicts) {
             Ok(stretch) => stretch,
             Err((why, verdicts)) => {
-                let why = VerdictNote::from_unset(row, self.resolver, cell, why);
+                let why = VerdictNote::from_not_set(row, self.resolver, cell, why);
                 return Err((why, verdicts));
             }
         };

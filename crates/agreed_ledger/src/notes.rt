@@ -1,4 +1,5 @@
-//! Notes: what a caller has learnt by looking at a cell.
+//! What a caller learnt by looking at a cell of the ledger, and the calls of the ledger that
+//! look.
 
 ghost use Rattle.std.specs.Prelude.{◌≡◌, ◌<◌, ◌≤◌, length, slice_get, MatchOption};
 ghost use Rattle.std.specs.declared.option.Option.TheVariants.{Some};
@@ -15,7 +16,7 @@ use crate::column::Column;
 use crate::ledger::Ledger;
 use crate::naming::Naming;
 use crate::records::Records;
-use facts::{Fact, Unset};
+use facts::{Fact, NotSet};
 use model::{ResolverNumber, RowNumber};
 use once_cell::race::{Note, OnceBox};
 use request_builder::Record;
@@ -87,19 +88,19 @@ impl<N: Naming> RecordNote<N> {
     }
 
     /// Why the row's record cell was not set, with a note in place of the fact.
-    pub(crate) fn from_unset(
+    pub(crate) fn from_not_set(
         row: RowNumber,
         cell: &OnceBox<Record>,
-        why: Unset<Fact<Record>>,
-    ) -> Unset<RecordNote<N>>
+        why: NotSet<Fact<Record>>,
+    ) -> NotSet<RecordNote<N>>
         requires row { slice_get N.cells.records row ≡ Some (cell_name cell.now) }
         requires taken { IfTaken why (λ fact. fact.cell ≡ cell_name cell.now) }
         ensures same { refusal_of result ≡ refusal_of why }
         ensures taken { IfTaken result (IsKnownAt row) }
     {
         match why {
-            Unset::OutOfMemory => Unset::OutOfMemory,
-            Unset::Taken(fact) => Unset::Taken(RecordNote::from_fact(row, cell, &fact)),
+            NotSet::OutOfMemory => NotSet::OutOfMemory,
+            NotSet::Taken(fact) => NotSet::Taken(RecordNote::from_fact(row, cell, &fact)),
         }
     }
 
@@ -153,21 +154,21 @@ impl<N: Naming> VerdictNote<N> {
 
     /// Why the verdict cell of the row and the resolver was not set, with a note in place of the
     /// fact.
-    pub(crate) fn from_unset(
+    pub(crate) fn from_not_set(
         row: RowNumber,
         resolver: ResolverNumber,
         cell: &OnceBox<Verdicts>,
-        why: Unset<Fact<Verdicts>>,
-    ) -> Unset<VerdictNote<N>>
+        why: NotSet<Fact<Verdicts>>,
+    ) -> NotSet<VerdictNote<N>>
         requires row { slice_get (verdict_cells N.cells resolver) row ≡ Some (cell_name cell.now) }
         requires taken { IfTaken why (λ fact. fact.cell ≡ cell_name cell.now) }
         ensures same { refusal_of result ≡ refusal_of why }
         ensures taken { IfTaken result (AreKnownAt row resolver) }
     {
         match why {
-            Unset::OutOfMemory => Unset::OutOfMemory,
-            Unset::Taken(fact) => {
-                Unset::Taken(VerdictNote::from_fact(row, resolver, cell, &fact))
+            NotSet::OutOfMemory => NotSet::OutOfMemory,
+            NotSet::Taken(fact) => {
+                NotSet::Taken(VerdictNote::from_fact(row, resolver, cell, &fact))
             }
         }
     }

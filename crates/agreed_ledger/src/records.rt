@@ -1,4 +1,4 @@
-//! What is kept of the records of consecutive rows.
+//! The facts about the records of consecutive rows, and setting the next record.
 
 ghost use Rattle.std.specs.Prelude.{
   ◌≡◌,
@@ -22,7 +22,7 @@ ghost use Rattle.agreed_ledger.specs.Cells.{IsKnownAt, IsWithin};
 use crate::ledger::Ledger;
 use crate::naming::Naming;
 use crate::notes::RecordNote;
-use facts::{Fact, Stretch, Unset};
+use facts::{Fact, NotSet, Stretch};
 use model::RowNumber;
 use request_builder::Record;
 use std::alloc::Global;
@@ -145,7 +145,7 @@ impl<N: Naming> Records<N> {
         &mut self,
         ledger: &Ledger<N>,
         rec: Record,
-    ) -> Result<Records<N>, (Unset<RecordNote<N>>, Record)>
+    ) -> Result<Records<N>, (NotSet<RecordNote<N>>, Record)>
         requires { end_of self.old < length N.cells.records }
         ensures gained { IfOk result (λ _. self.new ≡ appended self.old rec) }
         ensures copied { IfOk result (λ copy. copy ≡ self.new) }
@@ -159,7 +159,7 @@ impl<N: Naming> Records<N> {
         let cell = ledger.record_cell(row);
         let stretch = match self.stretch.set_next_and_copy(cell, rec) {
             Ok(stretch) => stretch,
-            Err((why, rec)) => return Err((RecordNote::from_unset(row, cell, why), rec)),
+            Err((why, rec)) => return Err((RecordNote::from_not_set(row, cell, why), rec)),
         };
         Ok(Records {
             stretch,

@@ -3,7 +3,7 @@
 ghost use Rattle.std.specs.Prelude.{◌≡◌, ◌⊎◌};
 ghost use Rattle.agreed_ledger.specs.declared.refusal.Refusal.TheVariants as refusals;
 
-use facts::Unset;
+use facts::NotSet;
 use system_keys::OutOfMemory;
 use thiserror::Error;
 
@@ -72,13 +72,13 @@ impl Refusal {
     ghost use Rattle.agreed_ledger.specs.Refusals.{refusal_of};
 
     /// Says why a cell was not set: `CellTaken` only if it held a value.
-    pub fn of<K>(unset: &Unset<K>) -> Refusal
+    pub fn of<K>(unset: &NotSet<K>) -> Refusal
         ensures value { result ≡ refusal_of unset.now }
         ensures either { (result ≡ refusals.CellTaken) ⊎ (result ≡ refusals.OutOfMemory) }
     {
         match unset {
-            Unset::OutOfMemory => Refusal::OutOfMemory,
-            Unset::Taken(_) => Refusal::CellTaken,
+            NotSet::OutOfMemory => Refusal::OutOfMemory,
+            NotSet::Taken(_) => Refusal::CellTaken,
         }
     }
 }

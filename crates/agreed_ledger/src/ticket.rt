@@ -1,4 +1,4 @@
-//! What the sequencer returns for a batch.
+//! What the sequencer returns for a batch: its row, and the records up to it.
 
 ghost use Rattle.std.specs.Prelude.{◌≡◌, ◌-◌, ◌<◌, length};
 ghost use Rattle.model.specs.Records.{IsHistory};

@@ -1,12 +1,14 @@
 //! The lines that are printed of metadata at a version.
 
 ghost use Rattle.std.specs.Prelude.{◌≡◌, ◌++◌, OnOk, string_bytes};
-ghost use Rattle.scripts.specs.Lines.{asked_text};
+ghost use Rattle.pages.specs.Printing.{Prints};
+ghost use Rattle.scripts.specs.Lines.{asked_line, asked_text};
 ghost use Rattle.cluster_lines.specs.MetadataLines.{metadata_text, proxy_line};
 
 use metadata::Metadata;
 use model::{ProxyNumber, Version};
-use scripts::{print_asked, print_routing};
+use pages::Page;
+use scripts::{print_asked_key, print_routing, take_page};
 use std::alloc::Global;
 use std::fmt::Write;
 use system_keys::{Bytes, OutOfMemory};
@@ -42,22 +44,38 @@ pub fn print_metadata(
         ≡ string_bytes text.old ++ metadata_text version metadata.now keys.now) }
 {
     let routing = metadata.routing(version)?;
-    print_routing(alloc, text, &routing)?;
-    print_all_asked(alloc, text, metadata, keys)
+    let mut page = take_page(alloc, text);
+    print_routing(&mut page, &routing);
+    print_asked_keys(&mut page, metadata, keys)?;
+    *text = page.into_text()?;
+    Ok(())
 }
 
-fn print_all_asked(
-    alloc: Global,
-    text: &mut String,
+/// Prints the tags of the asked keys. Fails only with `OutOfMemory`.
+fn print_asked_keys<P: Page>(
+    page: &mut P,
     metadata: &Metadata,
     keys: &[Bytes],
 ) -> Result<(), OutOfMemory>
-    ensures { OnOk result (string_bytes text.new
-        ≡ string_bytes text.old ++ asked_text metadata.now keys.now) }
+    ensures { OnOk result
+        (Prints P.has_printed page.old page.new (asked_text metadata.now keys.now)) }
 {
     for key in keys {
-        let tags = metadata.tags_of_key(key.as_slice())?;
-        print_asked(alloc, text, key.as_slice(), tags.as_slice())?;
+        print_tags_of_key(page, metadata, key)?;
     }
+    Ok(())
+}
+
+/// Prints an asked key and its tags. Fails only with `OutOfMemory`.
+fn print_tags_of_key<P: Page>(
+    page: &mut P,
+    metadata: &Metadata,
+    key: &Bytes,
+) -> Result<(), OutOfMemory>
+    ensures { OnOk result
+        (Prints P.has_printed page.old page.new (asked_line metadata.now key.now)) }
+{
+    let tags = metadata.tags_of_key(key.as_slice())?;
+    print_asked_key(page, key.as_slice(), tags.as_slice());
     Ok(())
 }

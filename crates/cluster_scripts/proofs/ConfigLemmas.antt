@@ -3,19 +3,19 @@ use Rattle.std.proofs.Common.{◌≡◌, ◌≤◌, ◌<◌, ℕ, Bool, true, fa
 use Rattle.std.specs.Prelude.{Option, Some, None}
 use Rattle.std.specs.Cmp.Derive.{both_true}
 use Rattle.std.proofs.lemmas.Bool.{leb-true, le-leb}
-use Rattle.model.specs.Configs.{Config, IsConfig, is_config, is_from_one, proxies_limit, resolvers_limit, window_limit, step_limit, version_limit}
+use Rattle.model.specs.Configs.{Config, IsConfig, is_config, is_from_one_to, proxies_limit, resolvers_limit, window_limit, step_limit, version_limit}
 use Rattle.cluster_scripts.specs.Shapes.{config_within}
 
 both_of : (a b : Bool) → (a && b) ≡ true → (a ≡ true) × (b ≡ true)
 both_of true b is = (refl, is)
 both_of false b is = let none : false ≡ true = is in cc
 
-within : (limit n : ℕ) → is_from_one limit n ≡ true → (1 ≤ n) × (n ≤ limit)
+within : (limit n : ℕ) → is_from_one_to limit n ≡ true → (1 ≤ n) × (n ≤ limit)
 within limit n is =
     let (above, below) = both_of (nat_le 1 n) (nat_le n limit) is in
     (leb-true 1 n above, leb-true n limit below)
 
-is_within : (limit n : ℕ) → 1 ≤ n → n ≤ limit → is_from_one limit n ≡ true
+is_within : (limit n : ℕ) → 1 ≤ n → n ≤ limit → is_from_one_to limit n ≡ true
 is_within limit n above below = both_true (le-leb 1 n above) (le-leb n limit below)
 
 below_step : (n : ℕ) → n ≤ step_limit → n < version_limit
@@ -36,9 +36,9 @@ test_within config is =
 -- and of no others
 within_test : (config : Config) → is_config config ≡ true → IsConfig config
 within_test config is =
-    let (but_step, step) = both_of _ (is_from_one step_limit config.step) is in
-    let (but_window, window) = both_of _ (is_from_one window_limit config.window) but_step in
-    let (proxies, resolvers) = both_of (is_from_one proxies_limit config.proxies) (is_from_one resolvers_limit config.resolvers) but_window in
+    let (but_step, step) = both_of _ (is_from_one_to step_limit config.step) is in
+    let (but_window, window) = both_of _ (is_from_one_to window_limit config.window) but_step in
+    let (proxies, resolvers) = both_of (is_from_one_to proxies_limit config.proxies) (is_from_one_to resolvers_limit config.resolvers) but_window in
     let (above, below) = within step_limit config.step step in
     record {
       proxies = within proxies_limit config.proxies proxies;

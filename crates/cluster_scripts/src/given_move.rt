@@ -1,4 +1,4 @@
-//! Moves, as scripts have them.
+//! A move as it is written in a script, before its range is checked.
 
 ghost use Rattle.std.specs.Prelude.{◌≡◌, IfOk};
 

@@ -1,4 +1,4 @@
-//! What is read of the values of a cluster's script.
+//! The numbers of a cluster, and moves, from JSON values.
 
 ghost use Rattle.serde_json.specs.View.{view};
 ghost use Rattle.scripts.specs.ScriptFaults.{IsReadAs};

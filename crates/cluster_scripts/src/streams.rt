@@ -1,4 +1,4 @@
-//! Moves of a cluster's script, as their tokens come.
+//! Moves from the tokens of a script.
 
 ghost use Rattle.std.specs.Prelude.{◌≡◌, ◌+◌, codes};
 ghost use Rattle.scripts.specs.BatchShapes.{range_shape};
@@ -8,7 +8,7 @@ ghost use Rattle.scripts.specs.Streams.{Slot, one};
 use crate::given_move::GivenMove;
 use json::Reader as TokenReader;
 use mutation::GivenRange;
-use scripts::{Fields, Streamed, take_into, take_object};
+use scripts::{Fields, Streamed, take_into_slot, take_object};
 use std::alloc::Global;
 
 impl Streamed for GivenMove {
@@ -48,8 +48,8 @@ impl Fields for MoveFields {
         name: &str,
     ) -> Option<()> {
         match name {
-            "range" => take_into(&mut self.range, alloc, reader, depth),
-            "resolver" => take_into(&mut self.resolver, alloc, reader, depth),
+            "range" => take_into_slot(&mut self.range, alloc, reader, depth),
+            "resolver" => take_into_slot(&mut self.resolver, alloc, reader, depth),
             _ => None,
         }
     }

@@ -1,17 +1,19 @@
 -- The result of a run by words that are written out.
 use Rattle.std.proofs.Common.{◌≢◌, List, [], Option, subst}
 use Rattle.std.specs.Prelude.{string_bytes}
+use Rattle.scripts.specs.declared.devices.Sink.{Ghosts as SinkView}
+use Rattle.scripts.specs.declared.devices.Source.{Ghosts as SourceView}
 use Rattle.clap.specs.Words.{Kinds, Text, fault_of}
-use Rattle.mode_choice.specs.CommandLine.{GivesMode}
-use Rattle.mode_choice.specs.KnownLines.{IsFoldLine, IsRejectedLine, IsThreadsLine, IsTurnsLine}
-use Rattle.mode_choice.specs.declared.mode.Mode.{Mode}
-use Rattle.mode_choice.specs.declared.mode.Mode.TheVariants.{Fold, Turns, Threads}
-use Rattle.mode_choice.proofs.KnownWords.{fold_line_gives, rejected_line_refused, threads_line_gives, turns_line_gives}
-use Rattle.mode_choice.specs.CommandLine.{command_line}
-use Rattle.mode_choice.specs.Rejections.{IsTextOf}
-use Rattle.mode_choice.proofs.Endings.{is_told}
-use Rattle.command_line.specs.Statuses.{IsRejectedWith}
-use Rattle.command_line.specs.WordRuns.{RunsMode, RunsOrRunsOut, RunsWords}
+use Rattle.command_line.specs.CommandLine.{GivesMode}
+use Rattle.command_line.specs.KnownLines.{IsFoldLine, IsRejectedLine, IsThreadsLine, IsTurnsLine}
+use Rattle.command_line.specs.declared.mode.Mode.{Mode}
+use Rattle.command_line.specs.declared.mode.Mode.TheVariants.{Fold, Turns, Threads}
+use Rattle.command_line.proofs.KnownWords.{fold_line_gives, rejected_line_refused, threads_line_gives, turns_line_gives}
+use Rattle.command_line.specs.CommandLine.{command_line}
+use Rattle.command_line.specs.Rejections.{IsTextOf}
+use Rattle.command_line.proofs.Endings.{is_told}
+use Rattle.command_line.specs.Statuses.{IfRan, IsRejectedWith}
+use Rattle.command_line.specs.WordRuns.{AreUnchanged, RunsByWords, RunsIn, RunsMode, RunsOrRunsOut, RunsWords}
 use Rattle.command_line.specs.declared.status.Status.{Status}
 use Rattle.command_line.specs.declared.status.Status.TheVariants as statuses
 
@@ -47,3 +49,18 @@ pub rejected_line_rejected : (words : List Text) (status : Status) (unchanged : 
 rejected_line_rejected words status unchanged runs run line =
     let (told, left) = run.refused (rejected_line_refused run.names words line) in
     (some_text (fault_of (command_line run.names) words) status told, left)
+
+-- what `clap` reads of the words says all of the command lines that are written out
+pub runs_by_words : {S T : Type 0} (words : List Text) (source : SourceView S) (source_old source_new : S)
+    (sink : SinkView T) (sink_old sink_new : T) (status : Status)
+    → RunsWords words status (AreUnchanged source_old source_new sink_old sink_new)
+    (λ mode. IfRan status (RunsIn mode source source_old source_new sink sink_old sink_new))
+    → RunsByWords words source source_old source_new sink sink_old sink_new status
+runs_by_words words source source_old source_new sink sink_old sink_new status run =
+    record {
+      mode = run;
+      fold = fold_line_folds _ _ _ _ run;
+      turns = turns_line_plays _ _ _ _ run;
+      threads = threads_line_commits _ _ _ _ run;
+      rejected = rejected_line_rejected _ _ _ _ run;
+    }

@@ -4,6 +4,13 @@
 pub mod WordRuns
 -- how the program ends
 pub mod Statuses
-pub use Rattle.mode_choice.specs.CommandLine
-pub use Rattle.mode_choice.specs.KnownLines
-pub use Rattle.mode_choice.specs.Modes
+-- the postcondition of a choice
+pub mod Choices
+-- how words that are refused are answered
+pub mod Rejections
+-- what the words are to `clap`
+pub mod CommandLine
+-- command lines that are written out
+pub mod KnownLines
+-- the modes that there are, and their names
+pub mod Modes

@@ -1,11 +1,12 @@
 -- What a run by words leaves.
 use Rattle.std.specs.Prelude.{◌≡◌, ◌≢◌, ◌⊎◌, ℕ, List, [], Option, Some, None}
 use Rattle.clap.specs.Words.{Text, fault_of, matches_of}
-use Rattle.mode_choice.specs.CommandLine.{ModeNames, command_line, mode_of}
-use Rattle.mode_choice.specs.Rejections.{IsTextOf}
-use Rattle.command_line.specs.Statuses.{IsRejectedWith}
-use Rattle.mode_choice.specs.declared.mode.Mode.{Mode}
-use Rattle.mode_choice.specs.declared.mode.Mode.TheVariants.{Fold, Turns, Threads}
+use Rattle.command_line.specs.CommandLine.{ModeNames, command_line, mode_of}
+use Rattle.command_line.specs.KnownLines.{IsFoldLine, IsRejectedLine, IsThreadsLine, IsTurnsLine}
+use Rattle.command_line.specs.Rejections.{IsTextOf}
+use Rattle.command_line.specs.Statuses.{IfRan, IsRejectedWith}
+use Rattle.command_line.specs.declared.mode.Mode.{Mode}
+use Rattle.command_line.specs.declared.mode.Mode.TheVariants.{Fold, Turns, Threads}
 use Rattle.command_line.specs.declared.status.Status.{Status}
 use Rattle.command_line.specs.declared.status.Status.TheVariants.{CommandLineRefused, Ran}
 use Rattle.fold_run.specs.Text.{fold_text}
@@ -73,3 +74,31 @@ pub record RunsWords
       → IsRejectedWith (IsTextOf (fault_of (command_line names) words)) status × unchanged
   pub taken : fault_of (command_line names) words ≡ [] → RunsOrRunsOut status unchanged
       (RunsMode (mode_of (matches_of (command_line names) words)) runs)
+
+-- nothing is read or written
+abbrev pub AreUnchanged : {S T : Type 0} → (source_old source_new : S) → (sink_old sink_new : T) → Type 0
+AreUnchanged source_old source_new sink_old sink_new =
+    (source_new ≡ source_old) × (sink_new ≡ sink_old)
+
+-- What a run by words leaves: what `clap` reads of them decides it, and of command lines that are written out it is
+-- said once more without `clap`.
+pub record RunsByWords {S T : Type 0} (words : List Text)
+    (source : SourceView S) (source_old source_new : S)
+    (sink : SinkView T) (sink_old sink_new : T) (status : Status) : Type 0 where
+  pub mode : RunsWords words status (AreUnchanged source_old source_new sink_old sink_new)
+      (λ mode. IfRan status (RunsIn mode source source_old source_new sink sink_old sink_new))
+  pub fold : IsFoldLine words → RunsOrRunsOut status (AreUnchanged source_old source_new sink_old sink_new)
+      (IfRan status (RunsBy fold_text source source_old source_new sink sink_old sink_new))
+  pub turns : IsTurnsLine words → RunsOrRunsOut status (AreUnchanged source_old source_new sink_old sink_new)
+      (IfRan status (RunsBy turns_text source source_old source_new sink sink_old sink_new))
+  pub threads : IsThreadsLine words → RunsOrRunsOut status (AreUnchanged source_old source_new sink_old sink_new)
+      (IfRan status (RunsThreads source source_old source_new sink sink_old sink_new))
+  pub rejected : IsRejectedLine words
+      → IsRejectedWith (λ text. text ≢ []) status × AreUnchanged source_old source_new sink_old sink_new
+
+-- what is left of the devices after a run by words
+abbrev pub LeavesDevicesOfRun : {S T : Type 0} → (source : SourceView S) → (source_old source_new : S)
+    → (sink : SinkView T) → (sink_old sink_new : T) → Status → Type 0
+LeavesDevicesOfRun source source_old source_new sink sink_old sink_new status =
+    LeavesByStatus status (AreUnchanged source_old source_new sink_old sink_new) (λ status.
+    (mode : Mode) × LeavesDevicesIn mode source source_old source_new sink sink_old sink_new status)

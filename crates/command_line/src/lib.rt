@@ -1,14 +1,21 @@
-//! The command line: the run that the words after the program's name ask for. It is also the door to the
-//! whole program: it re-exports the runs of each mode, and what they read, write and fail with.
+//! The command line: the mode that the words after the program's name choose, as `clap` reads them, and
+//! its run. It is also the door to the whole program: it re-exports the runs of each mode, and what they
+//! read, write and fail with.
 //!
-//! Source: this project's profile (modes and statuses).
+//! Source: this project's profile (words, modes and statuses).
 #![tactic(auto)]
 
+mod choosing;
+mod known_lines;
+mod mode;
+mod reading;
 mod run;
 mod status;
 
+pub use choosing::{Rejection, choose_mode};
 pub use fold_run::run_fold;
-pub use mode_choice::Mode;
+pub use known_lines::known_lines_scenarios;
+pub use mode::Mode;
 pub use run::run_words;
 pub use scripts::{Failed, Reader, RunStatus, ScriptFault, Sink, Source, Writer, read_batch};
 pub use status::Status;

@@ -8,7 +8,7 @@ use Rattle.std.specs.Option.{is_some}
 use Rattle.std.specs.BTreeMap.{insert_entry, is_at}
 use Rattle.system_keys.specs.Keys.{Key, Range, holds, is_key_below}
 use Rattle.dated_owners.specs.declared.later_owners.LaterOwner.{LaterOwner}
-use Rattle.dated_owners.specs.Starts.{value_from, AreAbove, AreRising, IsStart, AreStarts, AreKept, put_all, changed_in, with_values, joined, AddsIn}
+use Rattle.dated_owners.specs.Starts.{value_from, AreAbove, AreRising, IsStart, AreStarts, AreKept, put_all_owners, changed_in, with_values, joined, AddsIn}
 use Rattle.dated_owners.proofs.KeyStarts.{key_cmp, starts_stay}
 use Rattle.dated_owners.proofs.PutStarts.{changed, put_changed, changed_are_starts, value_changed, last_changed}
 use Rattle.dated_owners.proofs.JoinedStarts.{Starts, value_alike}
@@ -33,10 +33,10 @@ pub record IsCut (range : Range) (old cut : Starts) : Type 0 where
   pub begins : IsStart range.begin cut
   pub ends : IsStart range.end cut
 
-pub put_is : (range : Range) (o : LaterOwner) (cut new some : Starts) → AreRising cut → some ≡ changed_in range (more o) cut → (AreStarts some cut → new ≡ put_all cut some) → new ≡ changed range (more o) cut
+pub put_is : (range : Range) (o : LaterOwner) (cut new some : Starts) → AreRising cut → some ≡ changed_in range (more o) cut → (AreStarts some cut → new ≡ put_all_owners cut some) → new ≡ changed range (more o) cut
 put_is range o cut new some rising is put =
     put (subst (λ (xs : Starts). AreStarts xs cut) (sym is) (changed_are_starts range (more o) cut))
-    ∙ ap (put_all cut) is
+    ∙ ap (put_all_owners cut) is
     ∙ put_changed range (more o) cut rising
 
 pub adds_in : (range : Range) (o : LaterOwner) (old cut new : Starts) → is_key_below range.begin range.end ≡ true → IsCut range old cut → new ≡ changed range (more o) cut → AddsIn range o old new
@@ -68,20 +68,20 @@ next_grown o xs new copy key later was es rest all is same grown next so_far =
 
 -- the owners of the next start are put
 pub next_put : (es rest : Starts) (key : Key) (later : List LaterOwner) (all now next : Starts) → es ≡ (key, later) ∷ rest
-    → (IsStart key now → next ≡ put_all now ((key, later) ∷ [])) → AreStarts es now × (put_all now es ≡ all) → AreStarts rest next × (put_all next rest ≡ all)
+    → (IsStart key now → next ≡ put_all_owners now ((key, later) ∷ [])) → AreStarts es now × (put_all_owners now es ≡ all) → AreStarts rest next × (put_all_owners next rest ≡ all)
 next_put es rest key later all now next is put facts =
     let there = subst (λ (xs : Starts). AreStarts xs now) is facts.0 in
     let at : next ≡ insert_entry key_cmp now key later = put there.0 in (
       subst (λ (ss : Starts). AreStarts rest ss) (sym at) (starts_stay rest now key later there.1),
-      ap (λ (ss : Starts). put_all ss rest) at ∙ sym (ap (put_all now) is) ∙ facts.1,
+      ap (λ (ss : Starts). put_all_owners ss rest) at ∙ sym (ap (put_all_owners now) is) ∙ facts.1,
     )
 
 pub nothing_left : (es : Starts) → length es ≡ 0 → es ≡ []
 nothing_left [] none = refl
 nothing_left (e ∷ es) none = absurd (omega arith)
 
-pub all_put : (es all now : Starts) → es ≡ [] → AreStarts es now × (put_all now es ≡ all) → now ≡ all
-all_put es all now is facts = sym (ap (put_all now) is) ∙ facts.1
+pub all_put : (es all now : Starts) → es ≡ [] → AreStarts es now × (put_all_owners now es ≡ all) → now ≡ all
+all_put es all now is facts = sym (ap (put_all_owners now) is) ∙ facts.1
 
 not_absent : (es : Starts) (key : Key) → IsStart key es → lookup (is_at (key_cmp key)) es ≡ None → ⊥
 not_absent [] key there none = there
@@ -99,6 +99,6 @@ not_absent (e ∷ es) key there none = by (is_at (key_cmp key) e.0) refl none (�
 
 -- an insertion at a start succeeds
 pub put_there : {A B : Type 0} (r : Result A B) (es new : Starts) (key : Key) (later : List LaterOwner) → OnOk r (new ≡ insert_entry key_cmp es key later) → OnErr r (lookup (is_at (key_cmp key)) es ≡ None)
-    → IsStart key es → new ≡ put_all es ((key, later) ∷ [])
+    → IsStart key es → new ≡ put_all_owners es ((key, later) ∷ [])
 put_there (Ok x) es new key later ok absent there = ok
 put_there (Err e) es new key later ok absent there = absurd (not_absent es key there absent)

@@ -7,7 +7,7 @@ use Rattle.system_keys.proofs.KeyLaws.{inside_from_holds}
 use Rattle.model.specs.Owners.{Owner, trimmed}
 use Rattle.model.specs.OwnerMaps.{OwnerMapView, owners_left}
 use Rattle.dated_owners.specs.declared.later_owners.LaterOwner.{LaterOwner}
-use Rattle.dated_owners.specs.LaterOwners.{with_first, is_needless, needed, are_same}
+use Rattle.dated_owners.specs.LaterOwners.{with_first, is_first_needless, needed, are_same_owners}
 use Rattle.system_keys.specs.Limits.{key_space_end}
 use Rattle.dated_owners.specs.Pieces.{IsConstantIn, AreCuts, CountsPieces}
 use Rattle.dated_owners.specs.Starts.{value_from, AreAbove, AreRising, AreKept, moves_of, changes}
@@ -67,8 +67,8 @@ without_past oldest value begin last s ss above past follows q from up_to =
     before_first oldest value begin last s ss q follows from up_to below
     ∙ ap (left oldest) (sym (value_up_to last ss s.0 q above (not_below_back q s.0 below)))
 
-one_cut : (oldest : ℕ) (value : Key → List Owner) (begin : Key) (last : List LaterOwner) (s : Key × List LaterOwner) (ss : Starts) → is_needless oldest last ≡ false
-    → is_key_below begin key_space_end ≡ true → is_key_below begin s.0 ≡ true → AreAbove s.0 ss → is_key_below s.0 key_space_end ≡ true → are_same (needed oldest s.1) last ≡ false
+one_cut : (oldest : ℕ) (value : Key → List Owner) (begin : Key) (last : List LaterOwner) (s : Key × List LaterOwner) (ss : Starts) → is_first_needless oldest last ≡ false
+    → is_key_below begin key_space_end ≡ true → is_key_below begin s.0 ≡ true → AreAbove s.0 ss → is_key_below s.0 key_space_end ≡ true → are_same_owners (needed oldest s.1) last ≡ false
     → FollowsFrom oldest value begin last (s ∷ ss) → (more : Divided oldest value s.0 (needed oldest s.1) ss) → AreCuts value begin (s.0 ∷ more.cuts)
 one_cut oldest value begin last s ss normal start above later up_to differs follows more = (above, up_to, constant, apart, more.divide)
   where
@@ -88,10 +88,10 @@ one_cut oldest value begin last s ss normal start above later up_to differs foll
 
     apart : value begin ≡ value s.0 → ⊥
     apart e =
-        both_ways (are_same (needed oldest s.1) last) differs
+        both_ways (are_same_owners (needed oldest s.1) last) differs
         (equal_same (needed oldest s.1) last (sym (left_injective oldest last (needed oldest s.1) normal (needed_all oldest s.1) (sym at_begin ∙ e ∙ at_start))))
 
-cuts_from : (oldest : ℕ) (value : Key → List Owner) (begin : Key) (last : List LaterOwner) (ss : Starts) → is_needless oldest last ≡ false → is_key_below begin key_space_end ≡ true → AreAbove begin ss → AreRising ss
+cuts_from : (oldest : ℕ) (value : Key → List Owner) (begin : Key) (last : List LaterOwner) (ss : Starts) → is_first_needless oldest last ≡ false → is_key_below begin key_space_end ≡ true → AreAbove begin ss → AreRising ss
     → FollowsFrom oldest value begin last ss → Divided oldest value begin last ss
 cuts_from oldest value begin last [] normal start above r follows =
     record {
@@ -102,7 +102,7 @@ cuts_from oldest value begin last [] normal start above r follows =
       counted = refl;
     }
 cuts_from oldest value begin last (s ∷ ss) normal start above r follows =
-    by (is_key_below s.0 key_space_end) (are_same (needed oldest s.1) last) (up_to_below [] begin s.0 (none_below begin) above.0) refl refl
+    by (is_key_below s.0 key_space_end) (are_same_owners (needed oldest s.1) last) (up_to_below [] begin s.0 (none_below begin) above.0) refl refl
     (λ rest. cuts_from oldest value begin last ss normal start above.1 r.1 rest)
     (λ up_to rest. cuts_from oldest value s.0 (needed oldest s.1) ss (needed_all oldest s.1) up_to r.0 r.1 rest)
   where
@@ -112,10 +112,10 @@ cuts_from oldest value begin last (s ∷ ss) normal start above r follows =
     next : ℕ
     next = changes oldest (needed oldest s.1) ss
 
-    choice : {b c : Bool} → is_key_below [] s.0 ≡ true → is_key_below s.0 key_space_end ≡ b → are_same (needed oldest s.1) last ≡ c → changes oldest last (s ∷ ss) ≡ cond (b && not c) (suc next) (changes oldest last ss)
-    choice h k e = ap (λ (t : Bool). cond (not t) next (cond (is_key_below s.0 key_space_end && not (are_same (needed oldest s.1) last)) (suc next) (changes oldest last ss))) h ∙ ap₂ (λ (x y : Bool). cond (x && not y) (suc next) (changes oldest last ss)) k e
+    choice : {b c : Bool} → is_key_below [] s.0 ≡ true → is_key_below s.0 key_space_end ≡ b → are_same_owners (needed oldest s.1) last ≡ c → changes oldest last (s ∷ ss) ≡ cond (b && not c) (suc next) (changes oldest last ss)
+    choice h k e = ap (λ (t : Bool). cond (not t) next (cond (is_key_below s.0 key_space_end && not (are_same_owners (needed oldest s.1) last)) (suc next) (changes oldest last ss))) h ∙ ap₂ (λ (x y : Bool). cond (x && not y) (suc next) (changes oldest last ss)) k e
 
-    by : (b c : Bool) → is_key_below [] s.0 ≡ true → is_key_below s.0 key_space_end ≡ b → are_same (needed oldest s.1) last ≡ c
+    by : (b c : Bool) → is_key_below [] s.0 ≡ true → is_key_below s.0 key_space_end ≡ b → are_same_owners (needed oldest s.1) last ≡ c
         → (FollowsFrom oldest value begin last ss → Divided oldest value begin last ss)
         → (is_key_below s.0 key_space_end ≡ true → FollowsFrom oldest value s.0 (needed oldest s.1) ss → Divided oldest value s.0 (needed oldest s.1) ss)
         → Divided oldest value begin last (s ∷ ss)
@@ -149,7 +149,7 @@ all_keys oldest value (s ∷ ss) r follows = by (is_key_below [] s.0) refl
         record {
           cuts = rest.cuts;
           divide = rest.divide;
-          counted = ap (λ (t : Bool). cond (not t) (changes oldest (needed oldest s.1) ss) (cond (is_key_below s.0 key_space_end && not (are_same (needed oldest s.1) [])) (suc (changes oldest (needed oldest s.1) ss)) (changes oldest [] ss))) h ∙ rest.counted;
+          counted = ap (λ (t : Bool). cond (not t) (changes oldest (needed oldest s.1) ss) (cond (is_key_below s.0 key_space_end && not (are_same_owners (needed oldest s.1) [])) (suc (changes oldest (needed oldest s.1) ss)) (changes oldest [] ss))) h ∙ rest.counted;
         }
 
 pub counts_pieces : (map : OwnerMapView) (ss : Starts) (count : ℕ) → map.moves ≡ moves_of ss → AreKept ss → count ≡ suc (changes map.oldest [] ss) → CountsPieces map count

@@ -8,7 +8,7 @@ use Rattle.system_keys.proofs.KeyOrder.{below_trans}
 use Rattle.model.specs.declared.moves.Move.{Move}
 use Rattle.model.specs.Owners.{Owner, later_owners, owners}
 use Rattle.dated_owners.specs.declared.later_owners.LaterOwner.{LaterOwner}
-use Rattle.dated_owners.specs.LaterOwners.{owner_from, with_first, needed, are_same}
+use Rattle.dated_owners.specs.LaterOwners.{owner_from, with_first, needed, are_same_owners}
 use Rattle.dated_owners.specs.Starts.{value_from, last_value, AreAbove, AreRising, AreKept, with_values, joined, moves_in, moves_from, moves_of}
 use Rattle.dated_owners.proofs.LaterOwnerLaws.{first_owner, same_equal, equal_same}
 use Rattle.dated_owners.proofs.KeyStarts.{key_cmp, none_below, value_skip, value_at_less, value_at_equal, value_at_greater, rising_changed_all, last_changed_all}
@@ -19,9 +19,9 @@ Starts = List (Key × List LaterOwner)
 -- ---- joining
 
 pub joined_after : (d : List LaterOwner) (s : Key × List LaterOwner) (xs ys : Starts) → joined s.1 xs ≡ joined s.1 ys → joined d (s ∷ xs) ≡ joined d (s ∷ ys)
-joined_after d s xs ys e = by (are_same s.1 d) refl
+joined_after d s xs ys e = by (are_same_owners s.1 d) refl
   where
-    by : (t : Bool) → are_same s.1 d ≡ t → cond t (joined d xs) (s ∷ joined s.1 xs) ≡ cond t (joined d ys) (s ∷ joined s.1 ys)
+    by : (t : Bool) → are_same_owners s.1 d ≡ t → cond t (joined d xs) (s ∷ joined s.1 xs) ≡ cond t (joined d ys) (s ∷ joined s.1 ys)
     by true h = subst (λ (x : List LaterOwner). joined x xs ≡ joined x ys) (same_equal s.1 d h) e
     by false h = ap (λ (zs : Starts). s ∷ zs) e
 
@@ -44,7 +44,7 @@ joined_cut d (s ∷ ss) k r = by (key_cmp k s.0) refl (joined_cut s.1 ss k r.1)
 
 above_joined : (d : List LaterOwner) (b : Key) (ss : Starts) → AreAbove b ss → AreAbove b (joined d ss)
 above_joined d b [] above = tt
-above_joined d b (s ∷ ss) above = by (are_same s.1 d) (λ x. above_joined x b ss above.1)
+above_joined d b (s ∷ ss) above = by (are_same_owners s.1 d) (λ x. above_joined x b ss above.1)
   where
     by : (t : Bool) → ((x : List LaterOwner) → AreAbove b (joined x ss)) → AreAbove b (cond t (joined d ss) (s ∷ joined s.1 ss))
     by true rec = rec d
@@ -52,7 +52,7 @@ above_joined d b (s ∷ ss) above = by (are_same s.1 d) (λ x. above_joined x b 
 
 pub rising_joined : (d : List LaterOwner) (ss : Starts) → AreRising ss → AreRising (joined d ss)
 rising_joined d [] r = tt
-rising_joined d (s ∷ ss) r = by (are_same s.1 d) (λ x. rising_joined x ss r.1)
+rising_joined d (s ∷ ss) r = by (are_same_owners s.1 d) (λ x. rising_joined x ss r.1)
   where
     by : (t : Bool) → ((x : List LaterOwner) → AreRising (joined x ss)) → AreRising (cond t (joined d ss) (s ∷ joined s.1 ss))
     by true rec = rec d
@@ -60,17 +60,17 @@ rising_joined d (s ∷ ss) r = by (are_same s.1 d) (λ x. rising_joined x ss r.1
 
 pub last_joined : (d : List LaterOwner) (ss : Starts) → last_value d (joined d ss) ≡ last_value d ss
 last_joined d [] = refl
-last_joined d (s ∷ ss) = by (are_same s.1 d) refl (λ x. last_joined x ss)
+last_joined d (s ∷ ss) = by (are_same_owners s.1 d) refl (λ x. last_joined x ss)
   where
-    by : (t : Bool) → are_same s.1 d ≡ t → ((x : List LaterOwner) → last_value x (joined x ss) ≡ last_value x ss) → last_value d (cond t (joined d ss) (s ∷ joined s.1 ss)) ≡ last_value s.1 ss
+    by : (t : Bool) → are_same_owners s.1 d ≡ t → ((x : List LaterOwner) → last_value x (joined x ss) ≡ last_value x ss) → last_value d (cond t (joined d ss) (s ∷ joined s.1 ss)) ≡ last_value s.1 ss
     by true h rec = rec d ∙ ap (λ (x : List LaterOwner). last_value x ss) (sym (same_equal s.1 d h))
     by false h rec = rec s.1
 
 pub value_joined : (d : List LaterOwner) (ss : Starts) (q : Key) → AreRising ss → value_from d (joined d ss) q ≡ value_from d ss q
 value_joined d [] q r = refl
-value_joined d (s ∷ ss) q r = by (are_same s.1 d) refl (λ x. value_joined x ss q r.1)
+value_joined d (s ∷ ss) q r = by (are_same_owners s.1 d) refl (λ x. value_joined x ss q r.1)
   where
-    by : (t : Bool) → are_same s.1 d ≡ t → ((x : List LaterOwner) → value_from x (joined x ss) q ≡ value_from x ss q) → value_from d (cond t (joined d ss) (s ∷ joined s.1 ss)) q ≡ value_from d (s ∷ ss) q
+    by : (t : Bool) → are_same_owners s.1 d ≡ t → ((x : List LaterOwner) → value_from x (joined x ss) q ≡ value_from x ss q) → value_from d (cond t (joined d ss) (s ∷ joined s.1 ss)) q ≡ value_from d (s ∷ ss) q
     by true h rec = rec d ∙ value_skip d s ss q r.0 (same_equal s.1 d h)
     by false h rec = ap (λ (x : List LaterOwner). cond (is_key_below q s.0) d x) (rec s.1)
 

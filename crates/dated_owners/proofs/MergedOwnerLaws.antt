@@ -6,7 +6,7 @@ use Rattle.std.proofs.Math.Seq.{drop-cons}
 use Rattle.std.specs.List.{list_any}
 use Rattle.model.specs.Owners.{Owner, is_last, none_dated_below, walk_visits}
 use Rattle.dated_owners.specs.declared.later_owners.LaterOwner.{LaterOwner}
-use Rattle.dated_owners.specs.LaterOwners.{owner_from, is_same}
+use Rattle.dated_owners.specs.LaterOwners.{owner_from, is_same_owner}
 use Rattle.dated_owners.specs.MergedOwners.{WalkAlike, IsMerged, AreDated, begins_dated}
 use Rattle.dated_owners.proofs.LaterOwnerLaws.{first_owner, all_taken}
 
@@ -55,7 +55,7 @@ walk_then later other more first next =
 
 -- ---- an owner that comes again
 
-none_again : (bound : ℕ) (o : LaterOwner) (later : List LaterOwner) → list_any (is_same o) later ≡ true → none_dated_below bound (map owner_from (o ∷ later)) ≡ none_dated_below bound (map owner_from later)
+none_again : (bound : ℕ) (o : LaterOwner) (later : List LaterOwner) → list_any (is_same_owner o) later ≡ true → none_dated_below bound (map owner_from (o ∷ later)) ≡ none_dated_below bound (map owner_from later)
 none_again bound o [] there = absurd (cc there)
 none_again bound o (p ∷ later) there = by (nat_eq o.date p.date) (nat_eq o.resolver p.resolver) refl there (none_again bound o later)
   where
@@ -69,15 +69,15 @@ none_again bound o (p ∷ later) there = by (nat_eq o.date p.date) (nat_eq o.res
     on false true n e = e
     on false false n e = refl
 
-    by : (d s : Bool) → nat_eq o.date p.date ≡ d → ((d && s) || list_any (is_same o) later) ≡ true
-        → (list_any (is_same o) later ≡ true → none_dated_below bound (map owner_from (o ∷ later)) ≡ none_dated_below bound (map owner_from later))
+    by : (d s : Bool) → nat_eq o.date p.date ≡ d → ((d && s) || list_any (is_same_owner o) later) ≡ true
+        → (list_any (is_same_owner o) later ≡ true → none_dated_below bound (map owner_from (o ∷ later)) ≡ none_dated_below bound (map owner_from later))
         → none_dated_below bound (map owner_from (o ∷ p ∷ later)) ≡ none_dated_below bound (map owner_from (p ∷ later))
     by true s e h rec =
         let same : o.date ≡ p.date = eqb-true o.date p.date e in
         twice (nat_lt o.date bound) (nat_lt p.date bound) (none_dated_below bound (map owner_from later)) (ap (λ d. nat_lt d bound) (sym same))
     by false s e h rec = on (not (nat_lt o.date bound)) (not (nat_lt p.date bound)) (none_dated_below bound (map owner_from later)) (rec h)
 
-visits_again : (bound r : ℕ) (o : LaterOwner) (later : List LaterOwner) → list_any (is_same o) later ≡ true → walk_visits bound r (map owner_from (o ∷ later)) ≡ walk_visits bound r (map owner_from later)
+visits_again : (bound r : ℕ) (o : LaterOwner) (later : List LaterOwner) → list_any (is_same_owner o) later ≡ true → walk_visits bound r (map owner_from (o ∷ later)) ≡ walk_visits bound r (map owner_from later)
 visits_again bound r o [] there = absurd (cc there)
 visits_again bound r o (p ∷ later) there = by (nat_eq o.date p.date) (nat_eq o.resolver p.resolver) refl there (visits_again bound r o later)
   where
@@ -108,8 +108,8 @@ visits_again bound r o (p ∷ later) there = by (nat_eq o.date p.date) (nat_eq o
     on true f false n w h = refl
     on false f s n w h = refl
 
-    by : (d t : Bool) → nat_eq o.resolver p.resolver ≡ t → ((d && t) || list_any (is_same o) later) ≡ true
-        → (list_any (is_same o) later ≡ true → walk_visits bound r (map owner_from (o ∷ later)) ≡ walk_visits bound r (map owner_from later))
+    by : (d t : Bool) → nat_eq o.resolver p.resolver ≡ t → ((d && t) || list_any (is_same_owner o) later) ≡ true
+        → (list_any (is_same_owner o) later ≡ true → walk_visits bound r (map owner_from (o ∷ later)) ≡ walk_visits bound r (map owner_from later))
         → walk_visits bound r (map owner_from (o ∷ p ∷ later)) ≡ walk_visits bound r (map owner_from (p ∷ later))
     by true true same h rec =
         let one : o.resolver ≡ p.resolver = eqb-true o.resolver p.resolver same in
@@ -117,11 +117,11 @@ visits_again bound r o (p ∷ later) there = by (nat_eq o.date p.date) (nat_eq o
     by true false same h rec = on e (nat_eq p.resolver r) s n w (rec h)
     by false t same h rec = on e (nat_eq p.resolver r) s n w (rec h)
 
-last_again : (r : ℕ) (q : Owner) (o : LaterOwner) (later : List LaterOwner) → list_any (is_same o) later ≡ true → is_last r (q ∷ map owner_from (o ∷ later)) ≡ is_last r (q ∷ map owner_from later)
+last_again : (r : ℕ) (q : Owner) (o : LaterOwner) (later : List LaterOwner) → list_any (is_same_owner o) later ≡ true → is_last r (q ∷ map owner_from (o ∷ later)) ≡ is_last r (q ∷ map owner_from later)
 last_again r q o [] there = absurd (cc there)
 last_again r q o (p ∷ later) there = refl
 
-again_on : (o : LaterOwner) (later : List LaterOwner) → list_any (is_same o) later ≡ true → GoOnAlike (o ∷ later) later
+again_on : (o : LaterOwner) (later : List LaterOwner) → list_any (is_same_owner o) later ≡ true → GoOnAlike (o ∷ later) later
 again_on o later there =
     record {
       none = λ bound. none_again bound o later there;
@@ -130,7 +130,7 @@ again_on o later there =
     }
 
 -- the owner can be left out
-pub left_out : (front : List LaterOwner) (o : LaterOwner) (later : List LaterOwner) → IsTrue (list_any (is_same o) later) → WalkAlike (front ++ o ∷ later) (front ++ later)
+pub left_out : (front : List LaterOwner) (o : LaterOwner) (later : List LaterOwner) → IsTrue (list_any (is_same_owner o) later) → WalkAlike (front ++ o ∷ later) (front ++ later)
 left_out front o later there = alike_from (front ++ o ∷ later) (front ++ later) (behind front (o ∷ later) later (again_on o later there))
 
 -- ---- two owners of the date of the one behind them are exchanged
@@ -233,7 +233,7 @@ both_parts [] some = absurd (omega arith)
 both_parts (o ∷ later) some = ap (λ (xs : List LaterOwner). o ∷ xs) (sym (all_taken (o ∷ later) 1 (length (o ∷ later) - 1) (omega arith)))
 
 -- the first of the owners is left out, or put among those before
-pub first_left_out : (front owners : List LaterOwner) → 1 ≤ length owners → IsTrue (list_any (is_same (first_of owners)) (others_of owners)) → WalkAlike (front ++ owners) (front ++ drop 1 owners)
+pub first_left_out : (front owners : List LaterOwner) → 1 ≤ length owners → IsTrue (list_any (is_same_owner (first_of owners)) (others_of owners)) → WalkAlike (front ++ owners) (front ++ drop 1 owners)
 first_left_out front owners some there =
     subst (λ (xs : List LaterOwner). WalkAlike (front ++ xs) (front ++ drop 1 xs)) (sym (both_parts owners some)) (left_out front (first_of owners) (others_of owners) there)
 

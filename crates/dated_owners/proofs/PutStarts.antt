@@ -6,7 +6,7 @@ use Rattle.std.specs.Ordering.{match_ordering}
 use Rattle.std.specs.BTreeMap.{insert_entry}
 use Rattle.system_keys.specs.Keys.{Key, Range, holds, is_key_below}
 use Rattle.system_keys.proofs.KeyOrder.{not_below_itself, below_trans, not_below_back}
-use Rattle.dated_owners.specs.Starts.{value_from, last_value, AreAbove, AreRising, IsStart, AreStarts, put_all, changed_in}
+use Rattle.dated_owners.specs.Starts.{value_from, last_value, AreAbove, AreRising, IsStart, AreStarts, put_all_owners, changed_in}
 use Rattle.dated_owners.proofs.KeyStarts.{key_cmp, greater, start_above}
 
 -- the starts, where those in the range have their value changed
@@ -16,10 +16,10 @@ changed range f (s ∷ ss) = (s.0, cond (holds range s.0) (f s.1) s.1) ∷ chang
 
 -- ---- putting them in
 
-put_past : {X : Type 0} (s : Key × X) (ss some : List (Key × X)) → AreAbove s.0 some → put_all (s ∷ ss) some ≡ s ∷ put_all ss some
+put_past : {X : Type 0} (s : Key × X) (ss some : List (Key × X)) → AreAbove s.0 some → put_all_owners (s ∷ ss) some ≡ s ∷ put_all_owners ss some
 put_past s ss [] above = refl
 put_past s ss (g ∷ some) above =
-    ap (λ r. put_all (match_ordering r ((g.0, g.1) ∷ s ∷ ss) ((s.0, g.1) ∷ ss) (s ∷ insert_entry key_cmp ss g.0 g.1)) some) (greater g.0 s.0 above.0)
+    ap (λ r. put_all_owners (match_ordering r ((g.0, g.1) ∷ s ∷ ss) ((s.0, g.1) ∷ ss) (s ∷ insert_entry key_cmp ss g.0 g.1)) some) (greater g.0 s.0 above.0)
     ∙ put_past s (insert_entry key_cmp ss g.0 g.1) some above.1
 
 pub above_changed_in : {X : Type 0} (range : Range) (f : X → X) (b : Key) (ss : List (Key × X)) → AreAbove b ss → AreAbove b (changed_in range f ss)
@@ -43,17 +43,17 @@ changed_are_starts range f (s ∷ ss) = by (holds range s.0) (starts_later (chan
     by true rec = (inl refl, rec)
     by false rec = rec
 
-pub put_changed : {X : Type 0} (range : Range) (f : X → X) (ss : List (Key × X)) → AreRising ss → put_all ss (changed_in range f ss) ≡ changed range f ss
+pub put_changed : {X : Type 0} (range : Range) (f : X → X) (ss : List (Key × X)) → AreRising ss → put_all_owners ss (changed_in range f ss) ≡ changed range f ss
 put_changed range f [] r = refl
 put_changed {X} range f (s ∷ ss) r = by (holds range s.0) (put_changed range f ss r.1)
   where
     above : AreAbove s.0 (changed_in range f ss)
     above = above_changed_in range f s.0 ss r.0
 
-    by : (t : Bool) → put_all ss (changed_in range f ss) ≡ changed range f ss
-        → put_all (s ∷ ss) (cond t ((s.0, f s.1) ∷ changed_in range f ss) (changed_in range f ss)) ≡ (s.0, cond t (f s.1) s.1) ∷ changed range f ss
+    by : (t : Bool) → put_all_owners ss (changed_in range f ss) ≡ changed range f ss
+        → put_all_owners (s ∷ ss) (cond t ((s.0, f s.1) ∷ changed_in range f ss) (changed_in range f ss)) ≡ (s.0, cond t (f s.1) s.1) ∷ changed range f ss
     by true rec =
-        ap (λ o. put_all (match_ordering o ((s.0, f s.1) ∷ s ∷ ss) ((s.0, f s.1) ∷ ss) (s ∷ insert_entry key_cmp ss s.0 (f s.1))) (changed_in range f ss)) (tied_itself nat_list_cmp_total s.0)
+        ap (λ o. put_all_owners (match_ordering o ((s.0, f s.1) ∷ s ∷ ss) ((s.0, f s.1) ∷ ss) (s ∷ insert_entry key_cmp ss s.0 (f s.1))) (changed_in range f ss)) (tied_itself nat_list_cmp_total s.0)
         ∙ put_past (s.0, f s.1) ss (changed_in range f ss) above
         ∙ ap (λ (xs : List (Key × X)). (s.0, f s.1) ∷ xs) rec
     by false rec = put_past s ss (changed_in range f ss) above ∙ ap (λ (xs : List (Key × X)). s ∷ xs) rec
@@ -84,8 +84,8 @@ changed_past {X} range f (s ∷ ss) above =
 first_or_later : {X : Type 0} (q : Key) (s : Key × X) (ss : List (Key × X)) → IsStart q (s ∷ ss) → is_key_below s.0 q ≡ true → IsStart q ss
 first_or_later q s ss there h = ⊎_elim (λ e. absurd (both_ways (is_key_below s.0 q) (ap (is_key_below s.0) e ∙ not_below_itself s.0) h)) (λ later. later) there
 
-is_first : {X : Type 0} (q : Key) (s : Key × X) (ss : List (Key × X)) → AreAbove s.0 ss → IsStart q (s ∷ ss) → is_key_below s.0 q ≡ false → q ≡ s.0
-is_first q s ss above there h = ⊎_elim (λ e. e) (λ later. absurd (both_ways (is_key_below s.0 q) h (start_above s.0 q ss above later))) there
+is_initial_owner : {X : Type 0} (q : Key) (s : Key × X) (ss : List (Key × X)) → AreAbove s.0 ss → IsStart q (s ∷ ss) → is_key_below s.0 q ≡ false → q ≡ s.0
+is_initial_owner q s ss above there h = ⊎_elim (λ e. e) (λ later. absurd (both_ways (is_key_below s.0 q) h (start_above s.0 q ss above later))) there
 
 -- past the begin of the range
 value_inside : {X : Type 0} (range : Range) (f : X → X) (d : X) (ss : List (Key × X)) (q : Key) → AreAbove range.begin ss → AreRising ss → IsStart range.end ss
@@ -118,7 +118,7 @@ value_inside {X} range f d (s ∷ ss) q above r there = by (is_key_below s.0 ran
         → Goal (holds range s.0)
     by true h rec = subst Goal (sym (holds_from range s.0 low ∙ h)) (before (is_key_below q s.0) refl h (rec (first_or_later range.end s ss there h)))
     by false h rec =
-        let same : range.end ≡ s.0 = is_first range.end s ss r.0 there h in
+        let same : range.end ≡ s.0 = is_initial_owner range.end s ss r.0 there h in
         let rest : changed range f ss ≡ ss = changed_past range f ss (subst (λ (k : Key). AreAbove k ss) (sym same) r.0) in
         subst Goal (sym (holds_not_past range s.0 h))
         (ap (λ (xs : List (Key × X)). cond (is_key_below q s.0) (f d) (value_from s.1 xs q)) rest

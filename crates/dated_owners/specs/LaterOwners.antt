@@ -12,29 +12,29 @@ abbrev pub with_first : (later : List LaterOwner) → List Owner
 with_first later = record { date = 0; resolver = 0 } ∷ map owner_from later
 
 -- it is the first owner over again
-abbrev pub is_first : LaterOwner → Bool
-is_first o = nat_eq o.date 0 && nat_eq o.resolver 0
+abbrev pub is_initial_owner : LaterOwner → Bool
+is_initial_owner o = nat_eq o.date 0 && nat_eq o.resolver 0
 
 -- No walk needs the first of these owners: it is dated below `oldest`, and so is the next one, or
 -- it is the first owner of all keys over again.
-abbrev pub is_needless : (oldest : ℕ) → List LaterOwner → Bool
-is_needless oldest [] = false
-is_needless oldest (o ∷ []) = nat_lt o.date oldest && is_first o
-is_needless oldest (o ∷ p ∷ later) =
-    nat_lt o.date oldest && (is_first o || nat_lt p.date oldest)
+abbrev pub is_first_needless : (oldest : ℕ) → List LaterOwner → Bool
+is_first_needless oldest [] = false
+is_first_needless oldest (o ∷ []) = nat_lt o.date oldest && is_initial_owner o
+is_first_needless oldest (o ∷ p ∷ later) =
+    nat_lt o.date oldest && (is_initial_owner o || nat_lt p.date oldest)
 
 -- the owners without those at the front that no walk needs
 abbrev pub needed : (oldest : ℕ) → List LaterOwner → List LaterOwner
 needed oldest [] = []
 needed oldest (o ∷ later) =
-    if is_needless oldest (o ∷ later) then needed oldest later else o ∷ later
+    if is_first_needless oldest (o ∷ later) then needed oldest later else o ∷ later
 
-abbrev pub is_same : (o p : LaterOwner) → Bool
-is_same o p = nat_eq o.date p.date && nat_eq o.resolver p.resolver
+abbrev pub is_same_owner : (o p : LaterOwner) → Bool
+is_same_owner o p = nat_eq o.date p.date && nat_eq o.resolver p.resolver
 
 -- the two lists are equal
-abbrev pub are_same : (later other : List LaterOwner) → Bool
-are_same [] [] = true
-are_same [] (p ∷ other) = false
-are_same (o ∷ later) [] = false
-are_same (o ∷ later) (p ∷ other) = is_same o p && are_same later other
+abbrev pub are_same_owners : (later other : List LaterOwner) → Bool
+are_same_owners [] [] = true
+are_same_owners [] (p ∷ other) = false
+are_same_owners (o ∷ later) [] = false
+are_same_owners (o ∷ later) (p ∷ other) = is_same_owner o p && are_same_owners later other

@@ -8,7 +8,7 @@ use Rattle.std.specs.Cmp.Lexicographic.{slice_cmp}
 use Rattle.system_keys.specs.Keys.{Key, Range, holds, is_key_below}
 use Rattle.model.specs.declared.moves.Move.{Move}
 use Rattle.dated_owners.specs.declared.later_owners.LaterOwner.{LaterOwner}
-use Rattle.dated_owners.specs.LaterOwners.{needed, are_same}
+use Rattle.dated_owners.specs.LaterOwners.{needed, are_same_owners}
 use Rattle.system_keys.specs.Limits.{key_space_end}
 
 -- the value at a key: the value of the last start up to it, or `value` before the first
@@ -42,9 +42,9 @@ AreStarts [] all = Unit {0}
 AreStarts (s ∷ some) all = IsStart s.0 all × AreStarts some all
 
 -- the starts with these put in, one after another
-abbrev pub put_all : {X : Type 0} → (all some : List (Key × X)) → List (Key × X)
-put_all all [] = all
-put_all all (s ∷ some) = put_all (insert_entry (slice_cmp nat_cmp) all s.0 s.1) some
+abbrev pub put_all_owners : {X : Type 0} → (all some : List (Key × X)) → List (Key × X)
+put_all_owners all [] = all
+put_all_owners all (s ∷ some) = put_all_owners (insert_entry (slice_cmp nat_cmp) all s.0 s.1) some
 
 -- the key is above the begin of the range and below its end
 abbrev pub is_inside : Range → Key → Bool
@@ -85,7 +85,7 @@ AddsIn range o before after =
 -- the starts at which the owners change, where `before` are those before the first
 abbrev pub joined : (before : List LaterOwner) → List (Key × List LaterOwner) → List (Key × List LaterOwner)
 joined before [] = []
-joined before (s ∷ ss) = if are_same s.1 before then joined before ss else s ∷ joined s.1 ss
+joined before (s ∷ ss) = if are_same_owners s.1 before then joined before ss else s ∷ joined s.1 ss
 
 -- a move of the range to each of the owners
 abbrev pub moves_in : Range → List LaterOwner → List Move
@@ -108,6 +108,6 @@ abbrev pub changes : (oldest : ℕ) (last : List LaterOwner) → List (Key × Li
 changes oldest last [] = 0
 changes oldest last (s ∷ ss) =
     if not (is_key_below [] s.0) then changes oldest (needed oldest s.1) ss
-    else if is_key_below s.0 key_space_end && not (are_same (needed oldest s.1) last)
+    else if is_key_below s.0 key_space_end && not (are_same_owners (needed oldest s.1) last)
     then suc (changes oldest (needed oldest s.1) ss)
     else changes oldest last ss

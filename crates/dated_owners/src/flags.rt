@@ -1,4 +1,4 @@
-//! Flags, one for each resolver, from which a list of resolvers in rising order is made.
+//! One flag for each resolver, and the list of the flagged resolvers.
 
 ghost use Rattle.std.specs.Prelude.{◌≡◌, length, nat_eq, filter, IfOk};
 ghost use Rattle.model.specs.Shares.{each_below};
@@ -9,7 +9,7 @@ use std::alloc::Global;
 use system_keys::{Items, OutOfMemory};
 
 /// Flags the resolver, if there is a flag for it. Does not allocate.
-pub fn flag(flags: &mut [bool], resolver: ResolverNumber)
+pub fn flag_resolver(flags: &mut [bool], resolver: ResolverNumber)
     ensures { Flags flags.old (λ r. nat_eq resolver r) flags.new }
 {
     if resolver < flags.len() {

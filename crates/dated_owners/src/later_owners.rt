@@ -1,7 +1,8 @@
-//! The owners of a key after the first one.
+//! The owners of a key after the first one: adding, trimming, merging and comparing them.
 
 ghost use Rattle.std.specs.Prelude.{◌≡◌, ◌≤◌, ◌++◌, ◌∷◌, [], true, drop, length, IfOk};
-ghost use Rattle.dated_owners.specs.LaterOwners.{is_first, is_needless, needed, is_same, are_same};
+ghost use Rattle.dated_owners.specs.LaterOwners.{is_initial_owner, is_first_needless, needed};
+ghost use Rattle.dated_owners.specs.LaterOwners.{is_same_owner, are_same_owners};
 ghost use Rattle.dated_owners.specs.MergedOwners.{IsMerged};
 
 use crate::merging::{has_one_date_twice, merge_owners};
@@ -83,7 +84,7 @@ impl LaterOwners {
     pub(crate) fn drop_needless(&mut self, oldest: Version)
         ensures { self.new ≡ needed oldest self.old }
     {
-        let count = needless(self.list.as_slice(), oldest);
+        let count = count_needless(self.list.as_slice(), oldest);
         let kept = self.list.len() - count;
         self.list.rotate_left(count);
         self.list.truncate(kept);
@@ -108,7 +109,7 @@ impl LaterOwners {
     }
 
     /// Removes all owners, and makes room for this many.
-    pub(crate) fn make_room(&mut self, count: usize) -> Result<(), AllocError> {
+    pub(crate) fn clear_and_reserve(&mut self, count: usize) -> Result<(), AllocError> {
         self.list.clear();
         self.list.reserve(count)
     }
@@ -141,12 +142,12 @@ impl Clone for LaterOwners {
 }
 
 /// How many owners at the front no walk needs.
-fn needless(owners: &[LaterOwner], oldest: Version) -> usize
+fn count_needless(owners: &[LaterOwner], oldest: Version) -> usize
     ensures needed { drop result owners.now ≡ needed oldest owners.now }
     ensures within { result ≤ length owners.now }
 {
     for count in 0..owners.len() {
-        if !is_needless(&owners[count..], oldest) {
+        if !is_first_needless(&owners[count..], oldest) {
             return count;
         }
     }
@@ -155,19 +156,19 @@ fn needless(owners: &[LaterOwner], oldest: Version) -> usize
 
 /// Whether no walk needs the first of these owners: it is dated below `oldest`, and so is the next
 /// one, or it is the first owner of all keys over again.
-fn is_needless(owners: &[LaterOwner], oldest: Version) -> bool
-    ensures { result ≡ is_needless oldest owners.now }
+fn is_first_needless(owners: &[LaterOwner], oldest: Version) -> bool
+    ensures { result ≡ is_first_needless oldest owners.now }
 {
     match owners {
         [] => false,
-        [owner] => owner.date < oldest && is_first(owner),
-        [owner, next, ..] => owner.date < oldest && (is_first(owner) || next.date < oldest),
+        [owner] => owner.date < oldest && is_initial_owner(owner),
+        [owner, next, ..] => owner.date < oldest && (is_initial_owner(owner) || next.date < oldest),
     }
 }
 
 /// Whether it is the first owner of all keys: resolver 0 from version 0 on.
-fn is_first(owner: &LaterOwner) -> bool
-    ensures { result ≡ is_first owner.now }
+fn is_initial_owner(owner: &LaterOwner) -> bool
+    ensures { result ≡ is_initial_owner owner.now }
 {
     owner.date == 0 && owner.resolver == 0
 }
@@ -176,26 +177,26 @@ fn is_first(owner: &LaterOwner) -> bool
 pub(crate) fn needed_owners(owners: &[LaterOwner], oldest: Version) -> &[LaterOwner]
     ensures { result.now ≡ needed oldest owners.now }
 {
-    &owners[needless(owners, oldest)..]
+    &owners[count_needless(owners, oldest)..]
 }
 
 /// Whether the lists are equal.
-pub(crate) fn are_same(owners: &[LaterOwner], others: &[LaterOwner]) -> bool
-    ensures { result ≡ are_same owners.now others.now }
+pub(crate) fn are_same_owners(owners: &[LaterOwner], others: &[LaterOwner]) -> bool
+    ensures { result ≡ are_same_owners owners.now others.now }
 {
     if owners.len() != others.len() {
         return false;
     }
     for i in 0..owners.len() {
-        if !is_same(&owners[i], &others[i]) {
+        if !is_same_owner(&owners[i], &others[i]) {
             return false;
         }
     }
     true
 }
 
-fn is_same(owner: &LaterOwner, other: &LaterOwner) -> bool
-    ensures { result ≡ is_same owner.now other.now }
+fn is_same_owner(owner: &LaterOwner, other: &LaterOwner) -> bool
+    ensures { result ≡ is_same_owner owner.now other.now }
 {
     owner.date == other.date && owner.resolver == other.resolver
 }

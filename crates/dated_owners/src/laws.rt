@@ -1,10 +1,10 @@
-//! Laws of the definitions of this crate, each the contract of a function with an empty body.
+//! The law that a map of owners has one count of pieces, however its keys are cut.
 
 ghost use Rattle.dated_owners.specs.Pieces.{PiecesHaveOneCount, AMoveMakesThreePieces};
 
 /// A map has one count of pieces, however its keys are cut: one before any move, and three after a
 /// move of keys that lie inside.
-pub fn pieces_law()
+pub fn one_count_of_pieces_law()
     ensures one_count { PiecesHaveOneCount }
     ensures scenario { AMoveMakesThreePieces }
 {}

@@ -1,9 +1,8 @@
-//! Lists of owners by which walks visit the same resolvers as before, in one form where they can be:
-//! each resolver once for each date, in the order of their numbers but for the last one of a date.
+//! Merging the owners of one date: each resolver once, so that walks visit the same resolvers.
 
 ghost use Rattle.std.specs.Prelude.{◌≡◌, ◌<◌, ◌≤◌, ◌++◌, true, drop, length, IfOk, OnOk, IsTrue};
 ghost use Rattle.std.specs.List.{list_any};
-ghost use Rattle.dated_owners.specs.LaterOwners.{is_same};
+ghost use Rattle.dated_owners.specs.LaterOwners.{is_same_owner};
 ghost use Rattle.dated_owners.specs.MergedOwners.{WalkAlike, AreDated, begins_dated};
 
 use crate::later_owners::LaterOwner;
@@ -34,19 +33,22 @@ pub(crate) fn merge_owners(
 {
     let mut merged = Vec::new(alloc);
     for i in 0..owners.len() {
-        add_merged(&mut merged, &owners[i..])?;
+        push_first_if_needed(&mut merged, &owners[i..])?;
     }
     Ok(merged)
 }
 
 /// Adds the first of the owners, unless it makes no difference before the others.
-fn add_merged(merged: &mut Vec<LaterOwner>, owners: &[LaterOwner]) -> Result<(), OutOfMemory>
+fn push_first_if_needed(
+    merged: &mut Vec<LaterOwner>,
+    owners: &[LaterOwner],
+) -> Result<(), OutOfMemory>
     ensures { OnOk result
         (WalkAlike (merged.old.items ++ owners.now) (merged.new.items ++ drop 1 owners.now)) }
 {
     match owners {
         [owner, later @ ..] => {
-            if !comes_again(*owner, later) {
+            if !recurs_within_date(*owner, later) {
                 let place = place_within_date(merged, *owner, later);
                 merged.insert(place, *owner)?;
             }
@@ -57,8 +59,8 @@ fn add_merged(merged: &mut Vec<LaterOwner>, owners: &[LaterOwner]) -> Result<(),
 }
 
 /// Whether the same owner comes again, before any of another date.
-fn comes_again(owner: LaterOwner, later: &[LaterOwner]) -> bool
-    ensures { result ≡ true → IsTrue (list_any (is_same owner) later.now) }
+fn recurs_within_date(owner: LaterOwner, later: &[LaterOwner]) -> bool
+    ensures { result ≡ true → IsTrue (list_any (is_same_owner owner) later.now) }
 {
     for i in 0..later.len() {
         if later[i].date != owner.date {
@@ -78,15 +80,15 @@ fn place_within_date(merged: &[LaterOwner], owner: LaterOwner, later: &[LaterOwn
     ensures dated { AreDated owner.date (drop result merged.now) }
     ensures inside { result < length merged.now → IsTrue (begins_dated owner.date later.now) }
 {
-    if has_date(owner.date, later) {
-        place_in_order(merged, owner)
+    if first_has_date(owner.date, later) {
+        place_by_resolver(merged, owner)
     } else {
         merged.len()
     }
 }
 
 /// Whether the first of the owners has the date.
-fn has_date(date: Version, owners: &[LaterOwner]) -> bool
+fn first_has_date(date: Version, owners: &[LaterOwner]) -> bool
     ensures { result ≡ begins_dated date owners.now }
 {
     match owners {
@@ -96,7 +98,7 @@ fn has_date(date: Version, owners: &[LaterOwner]) -> bool
 }
 
 /// The place before the owners at the end that have the same date and a greater resolver.
-fn place_in_order(merged: &[LaterOwner], owner: LaterOwner) -> usize
+fn place_by_resolver(merged: &[LaterOwner], owner: LaterOwner) -> usize
     ensures within { result ≤ length merged.now }
     ensures dated { AreDated owner.date (drop result merged.now) }
 {

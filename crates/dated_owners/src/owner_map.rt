@@ -184,7 +184,7 @@ impl OwnerMap {
         ensures { AreReaders self.now range.now snapshot result }
     {
         let walk = Walk::BackTo(snapshot.max(self.oldest));
-        self.asked_on_walk(walk, range)
+        self.resolvers_on_walk(walk, range)
     }
 
     /// Returns the resolvers that a write of `range` asks, in rising order: the last owner of each
@@ -199,11 +199,11 @@ impl OwnerMap {
     pub fn writers(&self, range: &KeyRange) -> ResolverSet
         ensures { AreWriters self.now range.now result }
     {
-        self.asked_on_walk(Walk::LastOwner, range)
+        self.resolvers_on_walk(Walk::LastOwner, range)
     }
 
     /// The resolvers that are asked about the range.
-    fn asked_on_walk(&self, walk: Walk, range: &KeyRange) -> ResolverSet
+    fn resolvers_on_walk(&self, walk: Walk, range: &KeyRange) -> ResolverSet
         ensures { let map = self.now in
             result ≡ asked_resolvers map.resolvers map.moves walk range.now }
     {
@@ -273,7 +273,7 @@ impl Clone for OwnerMap {
 
     fn clone(&self) -> Result<OwnerMap, AllocError> {
         let mut spare = LaterOwners::new(self.spare.alloc());
-        spare.make_room(self.spare.room())?;
+        spare.clear_and_reserve(self.spare.room())?;
         Ok(OwnerMap {
             resolvers: self.resolvers,
             last_date: self.last_date,

@@ -1,14 +1,15 @@
-//! The keys at which the owners change, in an ordered map: each stands for all keys from it on, up
-//! to the next. Keys before the first one have the first owner alone.
+//! The pieces of the key space that have the same owners: cutting, giving to an owner, trimming,
+//! merging and counting them. Keys before the first one have the first owner alone.
 
 ghost use Rattle.std.specs.Prelude.{◌≡◌, suc, ◌++◌, ◌∷◌, [], true, false, IfOk, OnOk, OnErr};
 ghost use Rattle.system_keys.specs.Keys.{Range, is_key_below};
-ghost use Rattle.dated_owners.specs.LaterOwners.{needed, are_same};
+ghost use Rattle.dated_owners.specs.LaterOwners.{needed, are_same_owners};
 ghost use Rattle.dated_owners.specs.MergedOwners.{WalkAlike, IsMerged};
 ghost use Rattle.dated_owners.specs.Starts.{value_from, IsStart, AreStarts, AreKept, AddsIn};
-ghost use Rattle.dated_owners.specs.Starts.{put_all, changed_in, with_values, joined, changes};
+ghost use Rattle.dated_owners.specs.Starts.{put_all_owners, changed_in, with_values, joined};
+ghost use Rattle.dated_owners.specs.Starts.{changes};
 
-use crate::later_owners::{LaterOwner, LaterOwners, are_same, needed_owners};
+use crate::later_owners::{LaterOwner, LaterOwners, are_same_owners, needed_owners};
 use model::Version;
 use std::alloc::Global;
 use std::collections::BTreeMap;
@@ -62,15 +63,15 @@ pub(crate) fn add_owner(
     let alloc = spare.alloc();
     cut(alloc, pieces, end)?;
     cut(alloc, pieces, begin)?;
-    let grown = grow_inside(pieces, spare, begin, end, owner)?;
+    let grown = copies_with_owner(pieces, spare, begin, end, owner)?;
     let count = grown.len();
-    put_all(pieces, grown);
+    put_all_owners(pieces, grown);
     Ok(count)
 }
 
 /// The pieces from `begin` up to `end`, each with one owner more. Fails only with `OutOfMemory`.
 /// `spare` gets room for the longest list.
-fn grow_inside(
+fn copies_with_owner(
     pieces: &Pieces,
     spare: &mut LaterOwners,
     begin: &Bytes,
@@ -87,16 +88,16 @@ fn grow_inside(
     for (key, owners) in pieces.range((Bound::Included(begin), Bound::Excluded(end))) {
         let key = key.copy()?;
         let more = LaterOwners::with_newest(alloc, owners.as_slice(), owner)?;
-        spare.make_room(more.as_slice().len())?;
+        spare.clear_and_reserve(more.as_slice().len())?;
         grown.push((key, more))?;
     }
     Ok(grown)
 }
 
 /// Puts owners at keys at which pieces begin. Does not allocate.
-fn put_all(pieces: &mut Pieces, grown: Vec<(Bytes, LaterOwners)>)
+fn put_all_owners(pieces: &mut Pieces, grown: Vec<(Bytes, LaterOwners)>)
     ensures { AreStarts grown.items pieces.old.entries
-        → pieces.new.entries ≡ put_all pieces.old.entries grown.items }
+        → pieces.new.entries ≡ put_all_owners pieces.old.entries grown.items }
 {
     for (key, owners) in grown {
         put(pieces, key, owners);
@@ -106,7 +107,7 @@ fn put_all(pieces: &mut Pieces, grown: Vec<(Bytes, LaterOwners)>)
 /// Puts owners at a key at which a piece begins. Does not allocate.
 fn put(pieces: &mut Pieces, key: Bytes, owners: LaterOwners)
     ensures { IsStart key pieces.old.entries
-        → pieces.new.entries ≡ put_all pieces.old.entries ((key, owners) ∷ []) }
+        → pieces.new.entries ≡ put_all_owners pieces.old.entries ((key, owners) ∷ []) }
 {
     let _ = pieces.insert(key, owners);
 }
@@ -126,13 +127,13 @@ pub(crate) fn sweep(pieces: &mut Pieces, spare: &mut LaterOwners, oldest: Versio
             ensures { (owners.new ≡ needed oldest owners.old)
                 × (result ≡ false → (is_noted.entry ≡ true) × (owners.new ≡ spare.entry.now))
                 × (is_noted.exit ≡ true → spare.exit.now ≡ owners.new) }
-        { is_kept(owners, spare, &mut is_noted, oldest) },
+        { is_kept_once_trimmed(owners, spare, &mut is_noted, oldest) },
     );
 }
 
 /// Drops the owners of a piece that no walk needs, and tells whether those left differ from the
 /// owners noted in `spare`; then notes them, if there is room. Does not allocate.
-fn is_kept(
+fn is_kept_once_trimmed(
     owners: &mut LaterOwners,
     spare: &mut LaterOwners,
     is_noted: &mut bool,
@@ -143,7 +144,7 @@ fn is_kept(
     ensures noted { is_noted.new ≡ true → spare.new ≡ owners.new }
 {
     owners.drop_needless(oldest);
-    is_other(owners.as_slice(), spare, is_noted)
+    note_if_different(owners.as_slice(), spare, is_noted)
 }
 
 /// Merges the owners of each piece, and joins neighbours with equal owners. A piece for which there is
@@ -163,28 +164,32 @@ pub(crate) fn merge(pieces: &mut Pieces, spare: &mut LaterOwners)
             ensures { IsMerged owners.old owners.new
                 × (result ≡ false → (is_noted.entry ≡ true) × (owners.new ≡ spare.entry.now))
                 × (is_noted.exit ≡ true → spare.exit.now ≡ owners.new) }
-        { is_left(owners, spare, &mut is_noted) },
+        { is_kept_once_merged(owners, spare, &mut is_noted) },
     );
 }
 
 /// Merges the owners of a piece, and tells whether those left differ from the owners noted in `spare`;
 /// then notes them, if there is room.
-fn is_left(owners: &mut LaterOwners, spare: &mut LaterOwners, is_noted: &mut bool) -> bool
+fn is_kept_once_merged(
+    owners: &mut LaterOwners,
+    spare: &mut LaterOwners,
+    is_noted: &mut bool,
+) -> bool
     ensures merged { IsMerged owners.old owners.new }
     ensures joined { result ≡ false → (is_noted.old ≡ true) × (owners.new ≡ spare.old) }
     ensures noted { is_noted.new ≡ true → spare.new ≡ owners.new }
 {
     owners.merge();
-    is_other(owners.as_slice(), spare, is_noted)
+    note_if_different(owners.as_slice(), spare, is_noted)
 }
 
 /// Whether the owners differ from those noted in `spare`, or none are noted; then notes them, if there
 /// is room. Does not allocate.
-fn is_other(owners: &[LaterOwner], spare: &mut LaterOwners, is_noted: &mut bool) -> bool
+fn note_if_different(owners: &[LaterOwner], spare: &mut LaterOwners, is_noted: &mut bool) -> bool
     ensures joined { result ≡ false → (is_noted.old ≡ true) × (owners.now ≡ spare.old) }
     ensures noted { is_noted.new ≡ true → spare.new ≡ owners.now }
 {
-    if *is_noted && are_same(owners, spare.as_slice()) {
+    if *is_noted && are_same_owners(owners, spare.as_slice()) {
         return false;
     }
     *is_noted = spare.copy_within_room(owners);
@@ -211,7 +216,7 @@ pub(crate) fn count_pieces(pieces: &Pieces, oldest: Version) -> usize
         let left = needed_owners(owners.as_slice(), oldest);
         if !is_below(b"", key.as_slice()) {
             last = left;
-        } else if is_below(key.as_slice(), KEY_SPACE_END) && !are_same(left, last) {
+        } else if is_below(key.as_slice(), KEY_SPACE_END) && !are_same_owners(left, last) {
             count += 1;
             last = left;
         }

@@ -1,4 +1,4 @@
-//! Which resolvers are asked about a range.
+//! Walks over the owners of a range, which find the resolvers that are asked about it.
 
 ghost use Rattle.std.specs.Prelude.{◌≡◌, ℕ, [], ◌≤◌, true, nat_eq, filter};
 ghost use Rattle.system_keys.specs.Keys.{Range, is_key_below};
@@ -9,7 +9,7 @@ ghost use Rattle.dated_owners.specs.Starts.{some_start};
 ghost use Rattle.dated_owners.specs.Walks.{takes, takes_later};
 ghost use Rattle.dated_owners.specs.Flags.{Flags};
 
-use crate::flags::flag;
+use crate::flags::flag_resolver;
 use crate::later_owners::LaterOwner;
 use crate::pieces::{Pieces, is_below};
 use crate::resolver_set::{MOST, ResolverSet};
@@ -68,7 +68,7 @@ fn walk_owners(owners: &[LaterOwner], walk: Walk, flags: &mut [bool])
     ensures { Flags flags.old (λ r. takes walk r (with_first owners.now)) flags.new }
 {
     match walk {
-        Walk::LastOwner => flag(flags, last_owner(owners)),
+        Walk::LastOwner => flag_resolver(flags, last_owner(owners)),
         Walk::BackTo(bound) => walk_back_to(owners, bound, flags),
     }
 }
@@ -89,10 +89,10 @@ fn walk_back_to(owners: &[LaterOwner], bound: Version, flags: &mut [bool])
 {
     for i in (0..owners.len()).rev() {
         let owner = &owners[i];
-        flag(flags, owner.resolver);
+        flag_resolver(flags, owner.resolver);
         if owner.date < bound {
             return;
         }
     }
-    flag(flags, 0);
+    flag_resolver(flags, 0);
 }

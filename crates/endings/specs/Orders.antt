@@ -1,5 +1,5 @@
 -- Statements: every order of offers and finishes ends in one world. They are of every sound world.
--- Each world that a run of events leads to is sound, by `run_law` of the model.
+-- Each world that a run of events leads to is sound, by `run_keeps_history_law` of the model.
 use Rattle.std.specs.Prelude.{◌≡◌, ◌<◌, ℕ, List, slice_index, Contains, IsTrue, ◌↔◌, ◌≤◌, take}
 use Rattle.std.specs.Prelude.{slice_get, Some}
 use Rattle.model.specs.Configs.{Config}

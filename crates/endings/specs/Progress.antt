@@ -1,5 +1,5 @@
 -- Statements: nothing gets stuck. They are of every sound world. Each world that a run of events
--- leads to is sound, by `run_law` of the model.
+-- leads to is sound, by `run_keeps_history_law` of the model.
 use Rattle.std.specs.Prelude.{◌≡◌, ◌<◌, ◌+◌, suc, ◌⊎◌, List, ◌++◌, length, filter, slice_index}
 use Rattle.std.specs.Prelude.{IsTrue, IsFalse}
 use Rattle.std.specs.List.{list_all}

@@ -5,7 +5,12 @@ mod fairness;
 mod orders;
 mod progress;
 
-pub use distances::{catch_up_law, known_law, lacked_law, lag_law, prefix_law, remembered_law};
-pub use fairness::{fair_law, round_law, segment_law};
-pub use orders::{batches_law, common_end_law, once_law, one_end_law, replies_law};
-pub use progress::{completion_law, stuck_law, work_law};
+pub use distances::{
+    catch_up_law, journals_are_prefixes_law, known_rows_law, lacks_only_unfinished_law,
+    remembered_rows_law, unbounded_lag_law,
+};
+pub use fairness::{fair_schedule_finishes_law, rounds_finish_all_law, segments_finish_all_law};
+pub use orders::{batches_finish_alike_law, common_end_law, one_end_law, rows_judged_alike_law};
+pub use progress::{
+    completion_law, judged_and_finished_once_law, never_stuck_law, work_decreases_law,
+};

@@ -5,4 +5,4 @@
 pub mod laws;
 mod stories;
 
-pub use stories::{order_scenarios, round_scenarios};
+pub use stories::{order_scenarios, rounds_needed_scenarios};

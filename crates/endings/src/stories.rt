@@ -14,7 +14,7 @@ pub fn order_scenarios()
 {}
 
 /// How many rounds a small cluster takes, by the order in a round.
-pub fn round_scenarios()
+pub fn rounds_needed_scenarios()
     ensures one { OneRoundIsEnough }
     ensures reverse { RoundsInReverseTakeOneMoreThanRows }
 {}

@@ -73,7 +73,7 @@ impl<'l, N: Naming + Send + Sync> Cluster<'l, N> {
 
     /// Commits the batch, and lets the proxy go. If the commit fails once the batch has a row, closes all
     /// resolvers, so that no thread waits for this row.
-    fn commit_or_close<R: Wait>(
+    fn commit_or_close_if_sequenced<R: Wait>(
         &self,
         rt: &R,
         proxy: &SharedProxy<'_, N>,
@@ -95,7 +95,11 @@ impl<'l, N: Naming + Send + Sync> Cluster<'l, N> {
 
     /// Commits the metadata, moves a range to resolver 1, and returns the version of the metadata.
     fn commit_metadata<R: Wait>(&self, rt: &R) -> Result<Version, Fault> {
-        let answer = self.commit_or_close(rt, &self.one, batch_of_sets(self.alloc, &METADATA)?)?;
+        let answer = self.commit_or_close_if_sequenced(
+            rt,
+            &self.one,
+            batch_of_sets(self.alloc, &METADATA)?,
+        )?;
         let begin = Vec::from_slice(self.alloc, b"m")?;
         let range = KeyRange::new(begin, Vec::from_slice(self.alloc, b"\xff")?)?;
         self.sequencer.lock(rt).move_range(&range, 1)?;
@@ -103,13 +107,19 @@ impl<'l, N: Naming + Send + Sync> Cluster<'l, N> {
     }
 
     /// Writes a key on each proxy, in two threads, and prints the tags of both writes.
-    fn write_both<R: Threads + Wait + Print + Sync>(&self, rt: &R) -> Result<(), Fault> {
+    fn write_on_both<R: Threads + Wait + Print + Sync>(&self, rt: &R) -> Result<(), Fault> {
         let apple = batch_of_sets(self.alloc, &[(b"apple", b"red")])?;
         let plum = batch_of_sets(self.alloc, &[(b"plum", b"blue")])?;
         let (first, second) = join(
             rt,
-            || tags_of_write(self.commit_or_close(rt, &self.one, apple)?.value()),
-            || tags_of_write(self.commit_or_close(rt, &self.other, plum)?.value()),
+            || tags_of_write(
+                self.commit_or_close_if_sequenced(rt, &self.one, apple)?
+                    .value(),
+            ),
+            || tags_of_write(
+                self.commit_or_close_if_sequenced(rt, &self.other, plum)?
+                    .value(),
+            ),
         );
         let apple = text_of_tags(self.alloc, first?.as_slice())?;
         let plum = text_of_tags(self.alloc, second?.as_slice())?;
@@ -125,7 +135,11 @@ impl<'l, N: Naming + Send + Sync> Cluster<'l, N> {
         proxy: &SharedProxy<'_, N>,
         version: Version,
     ) -> Result<String, Fault> {
-        let _answer = self.commit_or_close(rt, proxy, batch_of(Vec::new(self.alloc))?)?;
+        let _answer = self.commit_or_close_if_sequenced(
+            rt,
+            proxy,
+            batch_of(Vec::new(self.alloc))?,
+        )?;
         let routing = proxy.lock(rt).routing_at(version)?;
         text_of_routing(self.alloc, routing.value())
     }
@@ -213,7 +227,7 @@ fn in_cluster<N: Naming + Send + Sync, R: Threads + Wait + Print + Sync>(
     let ledger = blank.named::<N>();
     let cluster = Cluster::new(alloc, &ledger)?;
     let version = cluster.commit_metadata(rt)?;
-    cluster.write_both(rt)?;
+    cluster.write_on_both(rt)?;
     cluster.show_routings(rt, version)
 }
 

@@ -1,3 +1,5 @@
+//! The fact that a cell holds a value for good.
+
 ghost use Rattle.std.specs.Prelude.{◌≡◌, ℕ, IsSome};
 ghost use Rattle.std.specs.declared.option.Option.TheVariants.{Some};
 ghost use denote.Sharing.{said};

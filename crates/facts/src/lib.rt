@@ -13,5 +13,5 @@ mod setting;
 mod stretch;
 
 pub use fact::Fact;
-pub use setting::Unset;
+pub use setting::NotSet;
 pub use stretch::Stretch;

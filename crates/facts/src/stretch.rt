@@ -33,7 +33,7 @@ ghost use Rattle.facts.specs.Stretches.{
 ghost use Rattle.facts.specs.Unsets.{IfTaken};
 
 use crate::fact::Fact;
-use crate::setting::{Unset, set};
+use crate::setting::{NotSet, set};
 use once_cell::race::OnceBox;
 use std::alloc::{AllocError, Global};
 use std::marker::Model;
@@ -168,7 +168,7 @@ impl<T: Drop> Stretch<T> {
     ///
     /// Otherwise returns the value and leaves the stretch unchanged: with `Taken` and the fact
     /// about the cell if it held a value, or with `OutOfMemory`, and then the cell is as it was.
-    pub fn set_next(&mut self, cell: &OnceBox<T>, value: T) -> Result<(), (Unset<Fact<T>>, T)>
+    pub fn set_next(&mut self, cell: &OnceBox<T>, value: T) -> Result<(), (NotSet<Fact<T>>, T)>
         requires { end_of self.old < rows_limit }
         ensures gained { IfOk result (λ _.
             GainsFact self.old self.new (cell_name cell.now) value) }
@@ -178,7 +178,7 @@ impl<T: Drop> Stretch<T> {
     {
         let alloc = *self.facts.allocator();
         let Ok(()) = self.facts.reserve(1) else {
-            return Err((Unset::OutOfMemory, value));
+            return Err((NotSet::OutOfMemory, value));
         };
         let fact = set(alloc, cell, value)?;
         self.facts.push_reserved(fact);
@@ -191,7 +191,7 @@ impl<T: Drop> Stretch<T> {
         &mut self,
         cell: &OnceBox<T>,
         value: T,
-    ) -> Result<Stretch<T>, (Unset<Fact<T>>, T)>
+    ) -> Result<Stretch<T>, (NotSet<Fact<T>>, T)>
         requires { end_of self.old < rows_limit }
         ensures gained { IfOk result (λ _.
             GainsFact self.old self.new (cell_name cell.now) value) }
@@ -202,10 +202,10 @@ impl<T: Drop> Stretch<T> {
     {
         let alloc = *self.facts.allocator();
         let Ok(mut copied) = copy_with_room(alloc, &self.facts) else {
-            return Err((Unset::OutOfMemory, value));
+            return Err((NotSet::OutOfMemory, value));
         };
         let Ok(()) = self.facts.reserve(1) else {
-            return Err((Unset::OutOfMemory, value));
+            return Err((NotSet::OutOfMemory, value));
         };
         let fact = set(alloc, cell, value)?;
         copied.push_reserved(fact.again());

@@ -7,7 +7,7 @@ use Rattle.std.proofs.lemmas.List.Folds.{list_all-append}
 use Rattle.std.proofs.lemmas.List.Sums.{fold-append}
 use Rattle.serde_json.specs.Data.{Data}
 use Rattle.system_keys.specs.Keys.{Key}
-use Rattle.model.specs.Configs.{is_from_one, resolvers_limit}
+use Rattle.model.specs.Configs.{is_from_one_to, resolvers_limit}
 use Rattle.model.specs.Metadata.{after_journal_row, metadata}
 use Rattle.model.specs.declared.journal.JournalRow.{JournalRow}
 use Rattle.cluster_lines.specs.MetadataLines.{metadata_text}
@@ -74,7 +74,7 @@ fold_end raws rows folded so_far = record {
 
 -- the text of a script whose rows were folded
 pub text_of_script : (d : Data) (resolvers : ℕ) (raws : List RawRow) (ask : List Key) (folded : FoldedRows) (text : List ℕ)
-    → fields_shape d ≡ Some (record { resolvers = resolvers; rows = raws; ask = ask }) → AreFolded raws folded → folded.resolvers ≡ resolvers → is_from_one resolvers_limit resolvers ≡ true
+    → fields_shape d ≡ Some (record { resolvers = resolvers; rows = raws; ask = ask }) → AreFolded raws folded → folded.resolvers ≡ resolvers → is_from_one_to resolvers_limit resolvers ≡ true
     → text ≡ metadata_text folded.version folded.journal ask
     → (script : FoldScript) × (checked_raw checked_script (script_shape d) ≡ Ok script) × (text ≡ folded_text script)
 text_of_script d resolvers raws ask folded text shape are same within printed =

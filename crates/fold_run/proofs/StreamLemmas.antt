@@ -11,10 +11,10 @@ use Rattle.scripts.proofs.StreamObjectLemmas.{slot_put, slot_other, slot_value, 
 use Rattle.fold_run.specs.Shapes.{fields_shape, row_shape}
 use Rattle.fold_run.specs.Streams.{HoldsFields}
 use Rattle.fold_run.specs.declared.script.RawRow.{RawRow}
-use Rattle.fold_run.specs.declared.script_fields.ScriptFields.{ScriptFields}
+use Rattle.fold_run.specs.declared.fold_fields.FoldFields.{FoldFields}
 
 -- the rows are taken into an empty place
-pub rows_put : {R : Type 0} (is_from : R → List RawRow → Type 0) (depth : ℕ) (old rest : List Token) (f new : ScriptFields R) (result : Option Unit)
+pub rows_put : {R : Type 0} (is_from : R → List RawRow → Type 0) (depth : ℕ) (old rest : List Token) (f new : FoldFields R) (result : Option Unit)
     → IfSome result (λ _. (raws : List RawRow) × (made : R) × Takes (list_shape row_shape) depth old raws rest × is_from made raws × (f.rows ≡ None) × (new ≡ record f { rows = Some made }))
     → IfSome result (λ _. (d : Data) × TakesData depth old d rest × ((ms : Members) → HoldsFields is_from f ms → HoldsFields is_from new (put (codes "rows") d ms)))
 rows_put is_from depth old rest f new result taken = if_some_weaker result (λ _ found.
@@ -41,7 +41,7 @@ rows_put is_from depth old rest f new result taken = if_some_weaker result (λ _
 -- ---- a whole script
 
 -- the fields are those of a script
-pub fields_of_script : {R : Type 0} (is_from : R → List RawRow → Type 0) (f : ScriptFields R) (ms : Members) (resolvers : ℕ) (made : R) (ask : List (List ℕ))
+pub fields_of_script : {R : Type 0} (is_from : R → List RawRow → Type 0) (f : FoldFields R) (ms : Members) (resolvers : ℕ) (made : R) (ask : List (List ℕ))
     → HoldsFields is_from f ms → f.resolvers ≡ Some resolvers → f.rows ≡ Some made → f.ask ≡ Some ask
     → (raws : List RawRow) × is_from made raws × (fields_shape (object ms) ≡ Some (record { resolvers = resolvers; rows = raws; ask = ask }))
 fields_of_script is_from f ms resolvers made ask held given rows asked =

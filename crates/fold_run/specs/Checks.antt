@@ -4,7 +4,7 @@ use Rattle.std.specs.Prelude.{Result, Ok}
 use Rattle.model.specs.declared.journal.StateTxn.{StateTxn}
 use Rattle.model.specs.declared.journal.JournalRow.{JournalRow}
 use Rattle.fold_run.specs.declared.script.FoldScript.{FoldScript}
-use Rattle.fold_run.specs.declared.script.RawScript.{RawScript}
+use Rattle.fold_run.specs.declared.script.RawFold.{RawFold}
 use Rattle.fold_run.specs.declared.script.RawRow.{RawRow}
 use Rattle.fold_run.specs.declared.script.RawState.{RawState}
 use Rattle.scripts.specs.declared.script_fault.ScriptFault.{ScriptFault}
@@ -23,7 +23,7 @@ checked_row row = do
   Ok (record { version = row.version; states = states })
 
 -- the script, or the first fault of its rows; asked keys are not checked
-abbrev pub checked_script : RawScript → Result FoldScript ScriptFault
+abbrev pub checked_script : RawFold → Result FoldScript ScriptFault
 checked_script script = do
   rows ← each_checked checked_row script.rows
   Ok (record { rows = rows; ask = script.ask })

@@ -3,7 +3,7 @@
 use Rattle.std.specs.Prelude.{codes, if◌then◌else◌, Option, Some, None}
 use Rattle.serde_json.specs.Data.{Data}
 use Rattle.serde_json.specs.Find.{as_bool}
-use Rattle.fold_run.specs.declared.script.RawScript.{RawScript}
+use Rattle.fold_run.specs.declared.script.RawFold.{RawFold}
 use Rattle.fold_run.specs.declared.script.RawRow.{RawRow}
 use Rattle.fold_run.specs.declared.script.RawState.{RawState}
 use Rattle.scripts.specs.ChangeShapes.{change_shape}
@@ -32,12 +32,12 @@ abbrev pub row_shape : Data → Option RawRow
 row_shape d = if has_fields 2 d then row_fields d else None
 
 -- `{"resolvers":..,"rows":[..],"ask":[..]}`
-abbrev pub script_fields : Data → Option RawScript
+abbrev pub script_fields : Data → Option RawFold
 script_fields d = do
   resolvers ← field_shape number_shape (codes "resolvers") d
   rows ← field_shape (list_shape row_shape) (codes "rows") d
   ask ← field_shape (list_shape bytes_shape) (codes "ask") d
   Some (record { resolvers = resolvers; rows = rows; ask = ask })
 
-abbrev pub fields_shape : Data → Option RawScript
+abbrev pub fields_shape : Data → Option RawFold
 fields_shape d = if has_fields 3 d then script_fields d else None

@@ -5,10 +5,10 @@ use Rattle.scripts.specs.Shapes.{bytes_shape, count_members, list_shape, number_
 use Rattle.scripts.specs.Streams.{IsFrom, Slot, one}
 use Rattle.fold_run.specs.Shapes.{row_shape}
 use Rattle.fold_run.specs.declared.script.RawRow.{RawRow}
-use Rattle.fold_run.specs.declared.script_fields.ScriptFields.{ScriptFields}
+use Rattle.fold_run.specs.declared.fold_fields.FoldFields.{FoldFields}
 
 -- what the fields of a script hold while they come; of the rows, what `is_from` says of them
-abbrev pub HoldsFields : {R : Type 0} → (R → List RawRow → Type 0) → ScriptFields R → Members
+abbrev pub HoldsFields : {R : Type 0} → (R → List RawRow → Type 0) → FoldFields R → Members
     → Type 0
 HoldsFields is_from f ms = (raws : Option (List RawRow)) × IsFrom is_from f.rows raws
     × Slot number_shape (codes "resolvers") f.resolvers ms

@@ -7,13 +7,13 @@ ghost use Rattle.fold_run.specs.Folding.{AreFolded, IsNext, IsNextFolded};
 ghost use Rattle.fold_run.specs.Shapes.{row_shape};
 ghost use Rattle.fold_run.specs.declared.script.RawRow.{RawRow as TheRawRow};
 
+use crate::fold_fields::FromFoldRows;
 use crate::limits::row_has_verdicts;
 use crate::script::RawRow;
-use crate::script_fields::FromRows;
 use json::Reader as TokenReader;
 use metadata::JournalFold;
 use model::{JournalRow, Version};
-use scripts::{Checked, Streamed, begin_array};
+use scripts::{Checked, Streamed, take_begin_array};
 use std::alloc::Global;
 
 /// Rows that were folded, one after another.
@@ -27,7 +27,7 @@ pub(crate) struct FoldedRows {
     pub(crate) journal: JournalFold,
 }
 
-impl FromRows for FoldedRows {
+impl FromFoldRows for FoldedRows {
     ghost is_from = { λ folded raws. AreFolded raws folded };
 
     fn take(
@@ -36,7 +36,7 @@ impl FromRows for FoldedRows {
         depth: usize,
         resolvers: Option<u64>,
     ) -> Option<FoldedRows> {
-        if depth == 0 || !begin_array(reader) {
+        if depth == 0 || !take_begin_array(reader) {
             return None;
         }
         fold_each(alloc, reader, depth - 1, resolvers?)

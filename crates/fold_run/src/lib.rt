@@ -5,13 +5,13 @@
 #![tactic(auto)]
 
 mod checks;
+mod fold_fields;
 mod folded_rows;
 mod limits;
 mod reading;
 mod row_streams;
 mod run;
 mod script;
-mod script_fields;
 mod shapes;
 mod text;
 

@@ -3,20 +3,20 @@
 
 ghost use Rattle.std.specs.Prelude.{◌≡◌};
 ghost use Rattle.std.specs.List.{list_all};
-ghost use Rattle.fold_run.specs.Limits.{versions_increase, has_verdicts, row_has_verdicts};
+ghost use Rattle.fold_run.specs.Limits.{versions_increase, state_has_verdicts, row_has_verdicts};
 ghost use Rattle.fold_run.specs.Limits.{is_within_limits};
 
-use crate::script::{RawRow, RawScript, RawState};
-use model::{RESOLVERS_LIMIT, is_from_one};
+use crate::script::{RawFold, RawRow, RawState};
+use model::{RESOLVERS_LIMIT, is_from_one_to};
 
 /// Whether there are from 1 to 64 resolvers, the versions are at least 1 and rise, and each
 /// transaction has one verdict for each resolver (this project's profile).
-pub(crate) fn is_within_limits(script: &RawScript) -> bool
+pub(crate) fn is_within_limits(script: &RawFold) -> bool
     ensures { result ≡ is_within_limits script.now }
 {
-    is_from_one(RESOLVERS_LIMIT, script.resolvers)
+    is_from_one_to(RESOLVERS_LIMIT, script.resolvers)
         && versions_increase(script.rows.as_slice())
-        && have_verdicts(script.resolvers, script.rows.as_slice())
+        && rows_have_verdicts(script.resolvers, script.rows.as_slice())
 }
 
 /// Whether the versions of the rows are above 0 and strictly increase.
@@ -34,7 +34,7 @@ fn versions_increase(rows: &[RawRow]) -> bool
 }
 
 /// Whether each state transaction of the rows has a verdict of each resolver.
-fn have_verdicts(resolvers: u64, rows: &[RawRow]) -> bool
+fn rows_have_verdicts(resolvers: u64, rows: &[RawRow]) -> bool
     ensures { result ≡ list_all (row_has_verdicts resolvers) rows.now }
 {
     rows.iter().all(|row| row_has_verdicts(resolvers, row))
@@ -47,12 +47,12 @@ pub(crate) fn row_has_verdicts(resolvers: u64, row: &RawRow) -> bool
     row.states
         .as_slice()
         .iter()
-        .all(|state| has_verdicts(resolvers, state))
+        .all(|state| state_has_verdicts(resolvers, state))
 }
 
 /// Whether the state transaction has a verdict of each resolver.
-fn has_verdicts(resolvers: u64, state: &RawState) -> bool
-    ensures { result ≡ has_verdicts resolvers state.now }
+fn state_has_verdicts(resolvers: u64, state: &RawState) -> bool
+    ensures { result ≡ state_has_verdicts resolvers state.now }
 {
     state.verdicts.as_slice().len() as u64 == resolvers
 }

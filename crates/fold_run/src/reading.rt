@@ -1,10 +1,10 @@
-//! Reading of fold scripts.
+//! Reading a fold script: by its tokens, else by its JSON value.
 
 ghost use Rattle.std.specs.Prelude.{◌≡◌, IfSome, Ok};
 ghost use Rattle.scripts.specs.ScriptFaults.{IsReadAs};
 ghost use Rattle.fold_run.specs.Scripts.{script_of};
 
-use crate::script::{FoldScript, RawScript};
+use crate::script::{FoldScript, RawFold};
 use scripts::{ScriptFault, read_checked, stream_checked};
 use std::alloc::Global;
 
@@ -18,14 +18,14 @@ use std::alloc::Global;
 pub fn read_fold(alloc: Global, bytes: &[u8]) -> Result<FoldScript, ScriptFault>
     ensures { IsReadAs (λ found. found) result (script_of bytes.now) }
 {
-    read_checked::<RawScript, FoldScript>(alloc, bytes)
+    read_checked::<RawFold, FoldScript>(alloc, bytes)
 }
 
-/// The fold script that the bytes are, read as its tokens come, without a tree of the JSON values.
-/// `None` decides nothing: `read_script` then reads the tree.
+/// The fold script that the bytes are, read as its tokens come, without a tree of the JSON
+/// values. `None` decides nothing: `read_fold` then reads the tree.
 #[tactic(auto, unfolding(crate::specs::Scripts::script_of))]
 pub fn stream_fold(alloc: Global, bytes: &[u8]) -> Option<FoldScript>
     ensures { IfSome result (λ script. script_of bytes.now ≡ Ok script) }
 {
-    stream_checked::<RawScript, FoldScript>(alloc, bytes)
+    stream_checked::<RawFold, FoldScript>(alloc, bytes)
 }

@@ -1,4 +1,4 @@
-//! Rows of a fold script, as their tokens come.
+//! State transactions and rows of a fold script from its tokens.
 
 ghost use Rattle.std.specs.Prelude.{◌≡◌, ◌+◌, codes};
 ghost use Rattle.serde_json.specs.Find.{as_bool};
@@ -10,7 +10,7 @@ ghost use Rattle.fold_run.specs.Shapes.{state_shape};
 use crate::script::{RawRow, RawState};
 use json::Reader as TokenReader;
 use model::Verdict;
-use scripts::{Fields, RawChange, Streamed, take_into, take_object};
+use scripts::{Fields, RawChange, Streamed, take_into_slot, take_object};
 use std::alloc::Global;
 use system_keys::Items;
 
@@ -65,9 +65,9 @@ impl Fields for StateFields {
         name: &str,
     ) -> Option<()> {
         match name {
-            "mutations" => take_into(&mut self.mutations, alloc, reader, depth),
-            "lock_aware" => take_into(&mut self.lock_aware, alloc, reader, depth),
-            "verdicts" => take_into(&mut self.verdicts, alloc, reader, depth),
+            "mutations" => take_into_slot(&mut self.mutations, alloc, reader, depth),
+            "lock_aware" => take_into_slot(&mut self.lock_aware, alloc, reader, depth),
+            "verdicts" => take_into_slot(&mut self.verdicts, alloc, reader, depth),
             _ => None,
         }
     }
@@ -100,8 +100,8 @@ impl Fields for RowFields {
         name: &str,
     ) -> Option<()> {
         match name {
-            "version" => take_into(&mut self.version, alloc, reader, depth),
-            "states" => take_into(&mut self.states, alloc, reader, depth),
+            "version" => take_into_slot(&mut self.version, alloc, reader, depth),
+            "states" => take_into_slot(&mut self.states, alloc, reader, depth),
             _ => None,
         }
     }

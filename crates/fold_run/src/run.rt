@@ -4,7 +4,7 @@ ghost use Rattle.scripts.specs.Runs.{LeavesDevices};
 ghost use Rattle.fold_run.specs.Scripts.{script_of};
 ghost use Rattle.fold_run.specs.Text.{Folds, fold_text, folded_text};
 
-use crate::script::{FoldScript, RawScript};
+use crate::script::{FoldScript, RawFold};
 use crate::text::{FoldText, print_folded};
 use scripts::{RunStatus, ScriptKind, Sink, Source, make_of_tokens, run_script};
 use std::alloc::Global;
@@ -14,7 +14,7 @@ use system_keys::OutOfMemory;
 pub(crate) struct FoldKind;
 
 impl ScriptKind for FoldKind {
-    type Raw = RawScript;
+    type Raw = RawFold;
 
     type Script = FoldScript;
 

@@ -1,4 +1,5 @@
-//! Fold scripts: rows of a journal to fold, and keys whose tags are asked.
+//! Fold scripts: rows of a journal to fold, and keys whose tags are asked, checked or as they are
+//! written (`Raw`).
 
 ghost use Rattle.std.specs.Prelude.{◌≡◌, IfOk};
 
@@ -18,7 +19,7 @@ pub struct FoldScript {
 }
 
 impl FoldScript {
-    /// Returns a deep copy. Fails only with `OutOfMemory`.
+    /// Returns an equal copy. Fails only with `OutOfMemory`.
     pub fn copy(&self) -> Result<FoldScript, OutOfMemory>
         ensures { IfOk result (λ copy. copy ≡ self.now) }
     {
@@ -33,7 +34,7 @@ impl FoldScript {
 
 /// A fold script as it is written, before its keys, values and ranges are checked.
 #[derive(Drop)]
-pub(crate) struct RawScript {
+pub(crate) struct RawFold {
     /// How many resolvers there are: each transaction has a verdict of each.
     pub(crate) resolvers: u64,
     /// The rows of the journal.
@@ -62,7 +63,7 @@ pub(crate) struct RawState {
     pub(crate) verdicts: Items<Verdict>,
 }
 
-/// A deep copy of the rows.
+/// A copy of the rows.
 fn copy_rows(alloc: Global, rows: &[JournalRow]) -> Result<Items<JournalRow>, OutOfMemory>
     ensures { IfOk result (λ copy. copy ≡ rows.now) }
 {

@@ -1,10 +1,10 @@
-//! What is read of the values of a fold script.
+//! State transactions, rows and the whole of a fold script from JSON values.
 
 ghost use Rattle.fold_run.specs.Limits.{script_shape};
 ghost use Rattle.fold_run.specs.Shapes.{row_shape, state_shape};
 
 use crate::limits::is_within_limits;
-use crate::script::{RawRow, RawScript, RawState};
+use crate::script::{RawFold, RawRow, RawState};
 use scripts::{ScriptFault, Shaped, field, has_fields};
 use serde_json::Value;
 use std::alloc::Global;
@@ -38,14 +38,14 @@ impl Shaped for RawRow {
     }
 }
 
-impl Shaped for RawScript {
+impl Shaped for RawFold {
     ghost shape = { script_shape };
 
-    fn from_value(alloc: Global, value: &Value) -> Result<RawScript, ScriptFault> {
+    fn from_value(alloc: Global, value: &Value) -> Result<RawFold, ScriptFault> {
         if !has_fields(value, 3) {
             return Err(ScriptFault::BadShape);
         }
-        let script = RawScript {
+        let script = RawFold {
             resolvers: field(alloc, value, "resolvers")?,
             rows: field(alloc, value, "rows")?,
             ask: field(alloc, value, "ask")?,

@@ -6,13 +6,13 @@ ghost use Rattle.cluster_lines.specs.MetadataLines.{metadata_text};
 ghost use Rattle.fold_run.specs.Folding.{IsTextOf};
 ghost use Rattle.fold_run.specs.Text.{folded_text, last_version};
 
+use crate::fold_fields::FoldFields;
 use crate::folded_rows::FoldedRows;
 use crate::script::FoldScript;
-use crate::script_fields::ScriptFields;
 use cluster_lines::print_metadata;
 use json::Reader as TokenReader;
 use metadata::Metadata;
-use model::{JournalRow, RESOLVERS_LIMIT, is_from_one};
+use model::{JournalRow, RESOLVERS_LIMIT, is_from_one_to};
 use scripts::{MadeOfTokens, take_object};
 use std::alloc::Global;
 use system_keys::{Bytes, OutOfMemory};
@@ -56,9 +56,9 @@ impl MadeOfTokens for FoldText {
 
     // Where the number of resolvers comes after the rows, it decides nothing.
     fn make(alloc: Global, reader: &mut TokenReader<'_>, depth: usize) -> Option<FoldText> {
-        let fields: ScriptFields<FoldedRows> = take_object(alloc, reader, depth)?;
+        let fields: FoldFields<FoldedRows> = take_object(alloc, reader, depth)?;
         let (resolvers, folded, ask) = (fields.resolvers?, fields.rows?, fields.ask?);
-        if folded.resolvers != resolvers || !is_from_one(RESOLVERS_LIMIT, resolvers) {
+        if folded.resolvers != resolvers || !is_from_one_to(RESOLVERS_LIMIT, resolvers) {
             return None;
         }
         let text = text_of_folded(alloc, folded, ask.as_slice())?;

@@ -4,8 +4,8 @@
 //! Source: this project's profile (scripts, lines and statuses).
 #![tactic(auto)]
 
-ghost use Rattle.std.specs.Prelude.{◌≡◌, ◌≤◌, ◌⊎◌, ℕ, pos, length, IfSome, None, Some};
-ghost use Rattle.scripts.specs.Devices.{read_limit};
+ghost use Rattle.std.specs.Prelude.{◌≡◌, ◌<◌, ◌⊎◌, ℕ, pos, length, IfSome, None, Some};
+ghost use Rattle.scripts.specs.Devices.{input_limit};
 ghost use Rattle.fold_run.specs.Text.{fold_text};
 ghost use Rattle.turns_run.specs.Text.{turns_text};
 ghost use Rattle.script_texts.specs.Texts.{Places};
@@ -30,7 +30,7 @@ pub extern "C" fn gakyhera_fold(
 ) -> i32
     ensures text { (status : ℕ) × (result ≡ pos status)
         × Places (fold_text script.now) status out.old out.new made.old made.new }
-    ensures long { result ≡ pos 3 → read_limit ≤ length script.now }
+    ensures long { result ≡ pos 3 → input_limit < length script.now }
 {
     i32::from(place(fold_text(alloc, script), out, made))
 }
@@ -46,7 +46,7 @@ pub extern "C" fn gakyhera_turns(
 ) -> i32
     ensures text { (status : ℕ) × (result ≡ pos status)
         × Places (turns_text script.now) status out.old out.new made.old made.new }
-    ensures long { result ≡ pos 3 → read_limit ≤ length script.now }
+    ensures long { result ≡ pos 3 → input_limit < length script.now }
 {
     i32::from(place(turns_text(alloc, script), out, made))
 }

@@ -1,4 +1,5 @@
-//! What is known after an audit, also after one that failed.
+//! What an audit shows: the resolvers' verdict cells, and a resolver that has not reached the
+//! proxy's version.
 
 ghost use Rattle.std.specs.Prelude.{◌≡◌, MatchOption, MatchResult, take};
 ghost use Rattle.locked_cluster.specs.Audits.{reached_records};

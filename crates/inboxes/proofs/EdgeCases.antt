@@ -2,7 +2,7 @@
 use Rattle.std.proofs.Common.{◌≡◌, refl, sym, ap, ◌∙◌, ℕ, zero, suc, ◌+◌, inl, inr, List, [], ◌∷◌, ◌++◌, length, slice_get, Some, arith, length-append}
 use Rattle.std.proofs.lemmas.Option.{same_Some}
 use Rattle.inboxes.specs.declared.views.MessageView.{MessageView}
-use Rattle.inboxes.specs.declared.views.Kind.TheVariants as kinds
+use Rattle.inboxes.specs.declared.views.MessageKind.TheVariants as kinds
 use Rattle.inboxes.specs.Edges.{ACloseFollowsTheEnd, AnotherProxyEnds, NoEndIsSent, TheEndComesLast, TheEndIsSentTwice, TheWorkerIsGone}
 use Rattle.inboxes.specs.Sending.{HasEndLast, ends_in}
 use Rattle.inboxes.specs.MessageViews.{close_view, end_view, request_view}

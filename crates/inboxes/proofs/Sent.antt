@@ -5,7 +5,7 @@ use Rattle.std.proofs.lemmas.List.{append-nil}
 use Rattle.std.proofs.lemmas.List.Elements.{filter-append}
 use Rattle.std.proofs.lemmas.Option.{slice_get_within}
 use Rattle.inboxes.specs.declared.views.MessageView.{MessageView}
-use Rattle.inboxes.specs.declared.views.Kind.{Kind}
+use Rattle.inboxes.specs.declared.views.MessageKind.{MessageKind}
 use Rattle.inboxes.specs.Ends.{AreSenders, IsEach, ProxyView, SenderView, fresh_sender}
 use Rattle.inboxes.specs.Sending.{AreEndedSenders, AreOpen, AreSent, ChangesEnd, IsEndedSender, IsFor, IsSent, IsSentTo, ends_in, is_end, is_last_kind, with_gone, with_sent}
 use Rattle.inboxes.specs.MessageViews.{end_view}
@@ -33,8 +33,8 @@ no_end ms x other =
 
 -- a Close and a request are no End
 pub not_end : (resolver : ℕ) (x : MessageView) → IsFor resolver x → is_end x ≡ false
-not_end resolver x (inl closes) = ap (λ (k : Kind). is_last_kind k) closes
-not_end resolver x (inr asks) = ap (λ (k : Kind). is_last_kind k) asks.0
+not_end resolver x (inl closes) = ap (λ (k : MessageKind). is_last_kind k) closes
+not_end resolver x (inr asks) = ap (λ (k : MessageKind). is_last_kind k) asks.0
 
 -- ---- one end of a proxy
 

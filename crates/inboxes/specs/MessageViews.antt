@@ -2,7 +2,7 @@
 use Rattle.std.specs.Prelude.{ℕ}
 use Rattle.inboxes.specs.declared.message.Body.{Body}
 use Rattle.inboxes.specs.declared.message.Body.TheVariants as bodies
-use Rattle.inboxes.specs.declared.views.Kind.TheVariants as kinds
+use Rattle.inboxes.specs.declared.views.MessageKind.TheVariants as kinds
 use Rattle.inboxes.specs.declared.views.MessageView.{MessageView}
 
 -- the view of a proxy's request to this resolver, for this row

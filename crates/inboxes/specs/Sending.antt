@@ -2,8 +2,8 @@
 use Rattle.std.specs.Prelude.{◌≡◌, ◌⊎◌, ℕ, List, [], ◌∷◌, ◌++◌, length, slice_get}
 use Rattle.std.specs.Prelude.{slice_set, Some, Bool, true, false, IsTrue, filter}
 use Rattle.inboxes.specs.declared.views.MessageView.{MessageView}
-use Rattle.inboxes.specs.declared.views.Kind.{Kind}
-use Rattle.inboxes.specs.declared.views.Kind.TheVariants as kinds
+use Rattle.inboxes.specs.declared.views.MessageKind.{MessageKind}
+use Rattle.inboxes.specs.declared.views.MessageKind.TheVariants as kinds
 use Rattle.inboxes.specs.Ends.{ProxyView, SenderView}
 use Rattle.inboxes.specs.MessageViews.{end_view}
 
@@ -13,7 +13,7 @@ IsFor resolver message =
     (message.kind ≡ kinds.Close) ⊎ ((message.kind ≡ kinds.Request) × (message.to ≡ resolver))
 
 -- whether it is the kind of a proxy's last message
-abbrev pub is_last_kind : Kind → Bool
+abbrev pub is_last_kind : MessageKind → Bool
 is_last_kind kinds.Request = false
 is_last_kind kinds.Close = false
 is_last_kind kinds.End = true

@@ -1,4 +1,4 @@
-//! Inboxes whose channels have no names yet.
+//! An inbox and its sending and receiving ends before its channel has a name.
 
 ghost use Rattle.std.specs.Prelude.{◌≡◌, ◌+◌, ◌<◌, ◌∷◌, ◌++◌, [], All, map, replicate, IfOk};
 ghost use Rattle.crossbeam_channel.specs.Claims.{IsSeatAt};
@@ -10,7 +10,7 @@ ghost use Rattle.inboxes.specs.Places.{known, place_at, place_of};
 use crate::channels::Channels;
 use crate::inbox_end::FreshEnd;
 use crate::question::Question;
-use crate::rule::{Hand, Inbox, Post, add_sender, make};
+use crate::rule::{Inbox, InboxPass, InboxSender, add_sender, make_inbox};
 use crate::sender_end::SenderEnd;
 use crate::worker_pass::WorkerPass;
 use agreed_ledger::Naming;
@@ -21,9 +21,9 @@ use std::marker::{Model, PhantomData};
 /// The channel of one inbox, with the worker's pass.
 #[derive(Drop)]
 pub(crate) struct BlankInbox<C: Question> {
-    post: Post<C>,
+    post: InboxSender<C>,
     inbox: Inbox<C>,
-    hand: Hand<C>,
+    hand: InboxPass<C>,
 }
 
 impl<C: Question> Model for BlankInbox<C> {
@@ -49,7 +49,7 @@ impl<C: Question> BlankInbox<C> {
     pub(crate) fn new(alloc: Global) -> Result<BlankInbox<C>, AllocError>
         ensures { IfOk result (λ made. made.made ≡ 0) }
     {
-        let (post, inbox, hand) = make(alloc)?;
+        let (post, inbox, hand) = make_inbox(alloc)?;
         Ok(BlankInbox { post, inbox, hand })
     }
 
@@ -87,8 +87,8 @@ impl<C: Question> BlankInbox<C> {
 #[derive(Drop)]
 pub(crate) struct BlankSender<C: Question> {
     proxy: ProxyNumber,
-    post: Post<C>,
-    hand: Hand<C>,
+    post: InboxSender<C>,
+    hand: InboxPass<C>,
 }
 
 impl<C: Question> Model for BlankSender<C> {
@@ -127,7 +127,7 @@ impl<C: Question> BlankSender<C> {
 #[derive(Drop)]
 pub(crate) struct BlankEnd<N: Naming, C: Question> {
     inbox: Inbox<C>,
-    hand: Hand<C>,
+    hand: InboxPass<C>,
     counts: Vec<u64>,
     of: PhantomData<N>,
 }

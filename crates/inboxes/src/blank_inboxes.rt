@@ -1,4 +1,4 @@
-//! The inboxes of a run, before they are named.
+//! The inboxes of a run before they are named, and their naming.
 
 ghost use Rattle.std.specs.Prelude.{◌≡◌, ◌+◌, ◌<◌, ◌≤◌, [], length, IfOk, OnOk};
 ghost use Rattle.std.specs.Vec.{vec_capacity};
@@ -8,9 +8,9 @@ ghost use Rattle.inboxes.specs.Ends.{IsEach};
 use crate::blank::{BlankEnd, BlankInbox, BlankSenders};
 use crate::channels::Channels;
 use crate::inbox_end::FreshEnd;
+use crate::inbox_room::{InboxRoom, SenderRoom};
 use crate::proxy_senders::ProxySenders;
 use crate::question::Question;
-use crate::room::{InboxRoom, SenderRoom};
 use agreed_ledger::{Ledger, Naming};
 use std::alloc::{AllocError, Global};
 use std::marker::Model;

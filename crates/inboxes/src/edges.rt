@@ -1,5 +1,5 @@
-//! Edge cases: values that meet a definition, and values that do not in one point. No code: each contract
-//! is a list of edge cases.
+//! Edge cases of an ended sender: values that meet its definition, and values that do not in one
+//! point. No code: each contract is a list of edge cases.
 
 ghost use Rattle.inboxes.specs.Edges.{ACloseFollowsTheEnd, AnotherProxyEnds, NoEndIsSent};
 ghost use Rattle.inboxes.specs.Edges.{TheEndComesLast, TheEndIsSentTwice, TheWorkerIsGone};

@@ -91,13 +91,13 @@ impl<N: Naming, C: Question, M: Channels> ProxySenders<N, C, M> {
     {
         let ProxySenders { proxy, ends } = self;
         let mut ends = ends;
-        send_ends(rt, proxy, &mut ends);
+        send_last_messages(rt, proxy, &mut ends);
         ends
     }
 }
 
 /// Sends the last message of the proxy through each of its ends.
-fn send_ends<N: Naming, C: Question, M: Channels, R: Wait>(
+fn send_last_messages<N: Naming, C: Question, M: Channels, R: Wait>(
     rt: &R,
     proxy: ProxyNumber,
     ends: &mut Vec<SenderEnd<N, C, M>>,

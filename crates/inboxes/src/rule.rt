@@ -1,4 +1,5 @@
-//! The rule of an inbox, and the steps of its passes.
+//! The rule of an inbox, and the calls on its channel: making it, adding a sender, sending,
+//! taking, joining passes.
 //!
 //! A step is one call on the channel, at one moment, and changes one pass. Each is proved to keep the
 //! rule ([`InOrder`]) whatever the other threads did before.
@@ -36,41 +37,41 @@ impl<C: Question> Protocol<Message<C>, View> for InOrder {
 }
 
 /// A message goes to the back of the queue, and its proxy's pass knows that it was sent.
-pub(crate) struct Sends;
+pub(crate) struct SendStep;
 
-impl<C: Question> Outcome<Message<C>, View> for Sends {
+impl<C: Question> Outcome<Message<C>, View> for SendStep {
     ghost use Rattle.std.specs.Prelude.{◌≡◌, [], ◌∷◌, ◌++◌};
     ghost use Rattle.inboxes.specs.Views.{sender};
 
     ghost then = { λ v message w. w ≡ sender v.from (v.put ++ message ∷ []) };
 }
 
-impl<C: Question> Lesson<Message<C>, View> for Sends {
+impl<C: Question> Lesson<Message<C>, View> for SendStep {
     ghost use Rattle.std.specs.Prelude.{⊤};
 
     ghost fact = { λ v items. ⊤ };
 }
 
 /// The message at the front of the queue is taken, and the worker's pass knows it.
-pub(crate) struct Takes;
+pub(crate) struct TakeStep;
 
-impl<C: Question> Outcome<Message<C>, View> for Takes {
+impl<C: Question> Outcome<Message<C>, View> for TakeStep {
     ghost use Rattle.std.specs.Prelude.{◌≡◌, [], ◌∷◌, ◌++◌};
     ghost use Rattle.inboxes.specs.Views.{worker};
 
     ghost then = { λ v message w. w ≡ worker v.made (v.got ++ message ∷ []) v.told };
 }
 
-impl<C: Question> Lesson<Message<C>, View> for Takes {
+impl<C: Question> Lesson<Message<C>, View> for TakeStep {
     ghost use Rattle.std.specs.Prelude.{⊤};
 
     ghost fact = { λ v items. ⊤ };
 }
 
 /// A pass is made for the next proxy, which has sent nothing.
-pub(crate) struct Admits;
+pub(crate) struct AdmitStep;
 
-impl Split<View> for Admits {
+impl Split<View> for AdmitStep {
     ghost use Rattle.std.specs.Prelude.{◌+◌, [], None};
     ghost use Rattle.inboxes.specs.Views.{sender, worker};
 
@@ -80,9 +81,9 @@ impl Split<View> for Admits {
 }
 
 /// The pass of a proxy is joined to the worker's, which is told what the proxy sent.
-pub(crate) struct Ends;
+pub(crate) struct EndStep;
 
-impl Join<View> for Ends {
+impl Join<View> for EndStep {
     ghost use Rattle.std.specs.Prelude.{Some};
     ghost use Rattle.inboxes.specs.Views.{spent, worker};
 
@@ -91,26 +92,29 @@ impl Join<View> for Ends {
     ghost spent = { spent };
 }
 
-/// What was taken of the proxy whose pass was joined last begins what it sent.
-pub(crate) struct Compares;
+/// What the worker took of the proxy whose pass was joined last is a prefix of what that proxy
+/// sent.
+pub(crate) struct CompareStep;
 
-impl<C: Question> Lesson<Message<C>, View> for Compares {
+impl<C: Question> Lesson<Message<C>, View> for CompareStep {
     ghost use Rattle.inboxes.specs.Delivers.{IsToldMore};
 
     ghost fact = { λ v items. IsToldMore v };
 }
 
 /// A sending end of an inbox.
-pub(crate) type Post<C> = RuledSender<Message<C>, View, InOrder>;
+pub(crate) type InboxSender<C> = RuledSender<Message<C>, View, InOrder>;
 
 /// The receiving end of an inbox.
 pub type Inbox<C> = RuledReceiver<Message<C>, View, InOrder>;
 
 /// A pass of an inbox.
-pub(crate) type Hand<C> = Pass<Message<C>, View>;
+pub(crate) type InboxPass<C> = Pass<Message<C>, View>;
 
 /// The two ends of a new inbox, and the worker's pass.
-pub(crate) fn make<C: Question>(alloc: Global) -> Result<(Post<C>, Inbox<C>, Hand<C>), AllocError>
+pub(crate) fn make_inbox<C: Question>(
+    alloc: Global,
+) -> Result<(InboxSender<C>, Inbox<C>, InboxPass<C>), AllocError>
     ensures channel { IfOk result (λ r. (receives_on r.1 ≡ sends_on r.0)
         × (ruled_capacity (sends_on r.0) ≡ inbox_limit)) }
     ensures pass { IfOk result (λ r. IsSeatAt (sends_on r.0) r.2 × (known r.2 ≡ worker 0 [] None)) }
@@ -122,8 +126,8 @@ pub(crate) fn make<C: Question>(alloc: Global) -> Result<(Post<C>, Inbox<C>, Han
 /// back.
 pub(crate) fn send<C: Question, R: Wait>(
     rt: &R,
-    post: &Post<C>,
-    hand: &mut Hand<C>,
+    post: &InboxSender<C>,
+    hand: &mut InboxPass<C>,
     message: Message<C>,
 ) -> Result<(), Message<C>>
     requires place { IsSeatAt (sends_on post.now) hand.old }
@@ -134,7 +138,7 @@ pub(crate) fn send<C: Question, R: Wait>(
         ≡ sender (known hand.old).from ((known hand.old).put ++ message ∷ [])) }
     ensures refused { IfErr result (λ back. (back ≡ message) × (known hand.new ≡ known hand.old)) }
 {
-    match post.send_as::<Sends, R>(rt, hand, message) {
+    match post.send_as::<SendStep, R>(rt, hand, message) {
         Ok(()) => Ok(()),
         Err(error) => Err(error.into_inner()),
     }
@@ -144,7 +148,7 @@ pub(crate) fn send<C: Question, R: Wait>(
 pub(crate) fn take_one<C: Question, R: Wait>(
     rt: &R,
     inbox: &Inbox<C>,
-    hand: &mut Hand<C>,
+    hand: &mut InboxPass<C>,
 ) -> Result<Message<C>, RecvError>
     requires place { IsSeatAt (receives_on inbox.now) hand.old }
     requires worker { (known hand.old).gets ≡ true }
@@ -154,11 +158,14 @@ pub(crate) fn take_one<C: Question, R: Wait>(
         (known hand.old).told) }
     ensures none { OnErr result (known hand.new ≡ known hand.old) }
 {
-    inbox.recv_as::<Takes, R>(rt, hand)
+    inbox.recv_as::<TakeStep, R>(rt, hand)
 }
 
 /// Makes the pass of the next proxy.
-pub(crate) fn add_sender<C: Question>(post: &Post<C>, hand: &mut Hand<C>) -> Hand<C>
+pub(crate) fn add_sender<C: Question>(
+    post: &InboxSender<C>,
+    hand: &mut InboxPass<C>,
+) -> InboxPass<C>
     requires place { IsSeatAt (sends_on post.now) hand.old }
     requires worker { (known hand.old).gets ≡ true }
     ensures place { IsSeatAt (sends_on post.now) hand.new }
@@ -166,11 +173,12 @@ pub(crate) fn add_sender<C: Question>(post: &Post<C>, hand: &mut Hand<C>) -> Han
     ensures worker { known hand.new ≡ worker ((known hand.old).made + 1) (known hand.old).got None }
     ensures sender { known result ≡ sender (known hand.old).made [] }
 {
-    post.another::<Admits>(hand)
+    post.another::<AdmitStep>(hand)
 }
 
-/// Joins the pass of a proxy to the worker's. What the worker took of it begins what it sent.
-pub(crate) fn join<C: Question>(post: &Post<C>, hand: &mut Hand<C>, ended: Hand<C>)
+/// Joins the pass of a proxy to the worker's. What the worker took of the proxy is a prefix of
+/// what the proxy sent.
+pub(crate) fn join<C: Question>(post: &InboxSender<C>, hand: &mut InboxPass<C>, ended: InboxPass<C>)
     requires place { IsSeatAt (sends_on post.now) hand.old }
     requires other { IsSeatAt (sends_on post.now) ended }
     requires worker { (known hand.old).gets ≡ true }
@@ -181,6 +189,6 @@ pub(crate) fn join<C: Question>(post: &Post<C>, hand: &mut Hand<C>, ended: Hand<
     ensures begins { (rest : List MessageView)
         × ((known ended).put ≡ of_proxy (known ended).from (known hand.old).got ++ rest) }
 {
-    post.absorb::<Ends>(hand, ended);
-    post.learn_as::<Compares>(hand);
+    post.absorb::<EndStep>(hand, ended);
+    post.learn_as::<CompareStep>(hand);
 }

@@ -11,7 +11,7 @@ ghost use Rattle.inboxes.specs.Sending.{with_gone, with_sent};
 use crate::channels::Channels;
 use crate::message::Message;
 use crate::question::Question;
-use crate::rule::{Hand, Post, send};
+use crate::rule::{InboxPass, InboxSender, send};
 use agreed_ledger::Naming;
 use model::{ProxyNumber, ResolverNumber};
 use std::marker::{Model, PhantomData};
@@ -22,8 +22,8 @@ use std::sync::Wait;
 pub struct SenderEnd<N: Naming, C: Question, M: Channels> {
     pub(crate) resolver: ResolverNumber,
     pub(crate) proxy: ProxyNumber,
-    pub(crate) post: Post<C>,
-    pub(crate) hand: Hand<C>,
+    pub(crate) post: InboxSender<C>,
+    pub(crate) hand: InboxPass<C>,
     pub(crate) sent: u64,
     pub(crate) gone: bool,
     pub(crate) of: PhantomData<(N, M)>,
@@ -64,8 +64,8 @@ impl<N: Naming, C: Question, M: Channels> SenderEnd<N, C, M> {
     pub(crate) fn new(
         resolver: ResolverNumber,
         proxy: ProxyNumber,
-        post: Post<C>,
-        hand: Hand<C>,
+        post: InboxSender<C>,
+        hand: InboxPass<C>,
     ) -> SenderEnd<N, C, M>
         requires proxy { proxy < N.cells.config.proxies }
         requires place { place_of (sends_on post) ≡ place_at M.places resolver }

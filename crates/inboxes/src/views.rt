@@ -5,7 +5,7 @@ use model::{ProxyNumber, RowNumber};
 use std::collections::LinkedList;
 
 /// What a message is.
-pub enum Kind {
+pub enum MessageKind {
     /// A request to the resolver.
     Request,
     /// A proxy gives up: the resolver is to be closed.
@@ -20,7 +20,7 @@ pub struct MessageView {
     /// The number of the proxy that sent it.
     pub proxy: ProxyNumber,
     /// What it is.
-    pub kind: Kind,
+    pub kind: MessageKind,
     /// The number of the resolver that the request is to.
     pub to: usize,
     /// The row of the request's record.

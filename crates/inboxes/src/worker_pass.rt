@@ -1,4 +1,4 @@
-//! What a worker took from its inbox.
+//! What a worker took from its inbox, and its comparison with what each ended proxy sent.
 
 ghost use Rattle.std.specs.Prelude.{◌≡◌, ◌≢◌, ◌+◌, ◌-◌, ◌^◌, ◌<◌, ◌≤◌, ◌∷◌, ◌++◌, [], true};
 ghost use Rattle.std.specs.Prelude.{length, min, slice_index, slice_set, IfErr, IfOk, OnErr};
@@ -14,7 +14,7 @@ use crate::channels::Channels;
 use crate::message::Message;
 use crate::question::Question;
 use crate::refusal::Refusal;
-use crate::rule::{Hand, Inbox, join, take_one};
+use crate::rule::{Inbox, InboxPass, join, take_one};
 use crate::sender_end::{EndedSender, SenderEnd};
 use agreed_ledger::Naming;
 use crossbeam_channel::RecvError;
@@ -36,7 +36,7 @@ pub struct Counts {
 #[derive(Drop)]
 pub struct WorkerPass<N: Naming, C: Question, M: Channels> {
     resolver: ResolverNumber,
-    hand: Hand<C>,
+    hand: InboxPass<C>,
     counts: Vec<u64>,
     of: PhantomData<(N, M)>,
 }
@@ -60,7 +60,7 @@ impl<N: Naming, C: Question, M: Channels> WorkerPass<N, C, M> {
     /// The worker's pass, which took nothing, with a count of 0 for each proxy.
     pub(crate) fn new(
         resolver: ResolverNumber,
-        hand: Hand<C>,
+        hand: InboxPass<C>,
         counts: Vec<u64>,
     ) -> WorkerPass<N, C, M>
         requires place { IsHandOf (place_at M.places resolver) hand }
@@ -104,13 +104,13 @@ impl<N: Naming, C: Question, M: Channels> WorkerPass<N, C, M> {
         ensures none { OnErr result (self.new ≡ self.old) }
     {
         let message = take_one(rt, inbox, &mut self.hand)?;
-        count_one(&mut self.counts, message.proxy());
+        count_message(&mut self.counts, message.proxy());
         Ok(message)
     }
 
     /// Joins the pass of a proxy that sends no more to the worker's, and returns how many of its
-    /// messages were taken and sent. What was taken of the proxy is a beginning of what it sent:
-    /// the same messages, in its order, each once. `NotSender` for a sender to another resolver,
+    /// messages were taken and sent. What was taken of the proxy is a prefix of what it sent: the
+    /// same messages, in its order, each once. `NotSender` for a sender to another resolver,
     /// which comes back.
     pub fn compare(
         &mut self,
@@ -142,7 +142,7 @@ impl<N: Naming, C: Question, M: Channels> WorkerPass<N, C, M> {
 }
 
 /// Counts a message of the proxy, if there is such a proxy.
-fn count_one(counts: &mut Vec<u64>, proxy: ProxyNumber)
+fn count_message(counts: &mut Vec<u64>, proxy: ProxyNumber)
     ensures counted { proxy < length counts.old.items → counts.new.items
         ≡ slice_set counts.old.items proxy
         (min (slice_index counts.old.items proxy + 1) (2 ^ 64 - 1)) }

@@ -13,7 +13,7 @@ use Rattle.locked_cluster.specs.Answers.{NotedFinishedView}
 use Rattle.locked_cluster.specs.Begun.{BegunView}
 use Rattle.locked_cluster.specs.Ready.{ReadyView}
 use Rattle.locked_cluster.specs.Proxies.{LockedProxyView, IsLockedProxy, ShowsFinished}
-use Rattle.locked_cluster.specs.Proxies.{IsBeginRefusal, IsFinishRefusal, awaits_before}
+use Rattle.locked_cluster.specs.Proxies.{IsBeginRefusal, IsFinishRefusal, awaits_row_before}
 use Rattle.locked_resolvers.specs.declared.refusal.Refusal.{Refusal}
 use Rattle.locked_cluster.specs.declared.commits.commit_fault.CommitFault.{CommitFault}
 use Rattle.locked_cluster.specs.declared.commits.commit_fault.CommitFault.TheVariants as faults
@@ -65,7 +65,7 @@ WasBeginRefused config p ticket refusal =
 abbrev pub WasFinishRefused : Config → ProxyNumber → ReadyView → Refusal → Type 0
 WasFinishRefused config p ready refusal =
     (v : LockedProxyView) × IsLockedProxy config v × (v.proxy.number ≡ p)
-    × IsFalse (awaits_before v.proxy.begun ready.row) × IsFinishRefusal v ready refusal
+    × IsFalse (awaits_row_before v.proxy.begun ready.row) × IsFinishRefusal v ready refusal
 
 -- Each fault of a commit of a proxy returns what its phase was given, the batch or what holds it, and
 -- its refusal is one of that phase. (`whose`: whose requests the way to ask takes.)

@@ -120,9 +120,9 @@ first_row [] = None
 first_row (rec ∷ later) = Some rec.row
 
 -- a record of an earlier row is still to be finished
-abbrev pub awaits_before : (begun : List Record) → RowNumber → Bool
-awaits_before [] row = false
-awaits_before (rec ∷ later) row = nat_lt rec.row row
+abbrev pub awaits_row_before : (begun : List Record) → RowNumber → Bool
+awaits_row_before [] row = false
+awaits_row_before (rec ∷ later) row = nat_lt rec.row row
 
 -- the record of the row, the last of these, is of the proxy of this number
 abbrev pub IsOfProxy : ProxyNumber → RowNumber → List Record → Type 0

@@ -1,7 +1,7 @@
 //! Committing batches, and collecting the replies to them.
 
+mod collected_replies;
 mod commit_fault;
-mod replies_to;
 mod shared_proxy;
 
 pub use commit_fault::CommitFault;

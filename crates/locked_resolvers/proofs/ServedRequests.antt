@@ -18,7 +18,7 @@ use Rattle.model.specs.Offers.{OfferResult, OfferFault, is_in_order, answer_to, 
 use Rattle.model.specs.Offers as offers
 use Rattle.model.specs.World.{reply_of}
 use Rattle.model.specs.Agreed.{Column, IsVerdictColumn}
-use Rattle.model.specs.ResolverMemory.{ResolverView, StandsForRequests, Course, GiveAgain, Judge, course}
+use Rattle.model.specs.ResolverMemory.{ResolverView, StandsForRequests, Decision, GiveAgain, Judge, course}
 use Rattle.model.specs.Laws.Resolvers.{answer_on_course}
 use Rattle.model.proofs.History.Growth.{last_version-push, push_cases}
 use Rattle.model.proofs.History.Chain.{element_at, up_to_front, version_before, versions_at}
@@ -34,8 +34,8 @@ use Rattle.state_memory.specs.declared.answer.Answer.{Answer as OfferAnswer}
 use Rattle.state_memory.specs.declared.answer.Answer.TheVariants as answers
 use Rattle.agreed_ledger.specs.Cells.{AllHaveRows, AreKnownAt, Cells, ColumnView, IsWithin, NotedVerdicts, verdict_cells, with_rows}
 use Rattle.facts.specs.Unsets.{IfTaken}
-use Rattle.facts.specs.declared.setting.Unset.{Unset}
-use Rattle.facts.specs.declared.setting.Unset.TheVariants as unset
+use Rattle.facts.specs.declared.setting.NotSet.{NotSet}
+use Rattle.facts.specs.declared.setting.NotSet.TheVariants as unset
 use Rattle.state_memory.specs.declared.refusal.Refusal.{Refusal as OfferRefusal}
 use Rattle.state_memory.specs.declared.refusal.Refusal.TheVariants as offered
 use Rattle.locked_resolvers.specs.Requests.{RequestView, IsRequestFor, HasRowVersions}
@@ -374,7 +374,7 @@ has_room cells v q rec before records next keeps all records_are within first kn
 pub not_judged : (memory : ResolverView) (judged : List Request) (q : Request) (reply : Reply) → StandsForRequests memory judged → (course memory q ≡ Ok Judge → ⊥) → answer_to memory.number (length memory.proxies) memory.written.window judged q ≡ Ok (offers.Judged reply) → ⊥
 not_judged memory judged q reply stands other answered = by (course memory q) refl (sym (memory_answers memory judged q stands) ∙ answered)
   where
-    by : (way : Result Course OfferFault) → course memory q ≡ way → answer_on_course (request_reply memory.written.window judged q) way ≡ Ok (offers.Judged reply) → ⊥
+    by : (way : Result Decision OfferFault) → course memory q ≡ way → answer_on_course (request_reply memory.written.window judged q) way ≡ Ok (offers.Judged reply) → ⊥
     by (Ok (GiveAgain kept)) is same = absurd (cc)
     by (Ok Judge) is same = other is
     by (Err fault) is same = absurd (cc)
@@ -648,17 +648,17 @@ pub served_next : (v : LockedResolverView) (q : Request) → v.closed ≡ false 
 served_next v q is_open judge = (is_open, is_served v.memory q judge)
 
 -- a request that comes next is refused only so
-pub late_refusal : (v : LockedResolverView) (q : Request) (why : Unset NotedVerdicts) → v.closed ≡ false → course v.memory q ≡ Ok Judge → IsOfferRefusal v q (of_unset why)
+pub late_refusal : (v : LockedResolverView) (q : Request) (why : NotSet NotedVerdicts) → v.closed ≡ false → course v.memory q ≡ Ok Judge → IsOfferRefusal v q (of_unset why)
 late_refusal v q unset.OutOfMemory is_open judge = served_next v q is_open judge
 late_refusal v q (unset.Taken note) is_open judge = (is_open, is_judged v.memory q judge)
 
 -- with a note of the cell where that was taken
-pub tells_cell : (row r : ℕ) (why : Unset NotedVerdicts) → IfTaken why (AreKnownAt row r) → TellsTaken row r (of_unset why) (taken_note why)
+pub tells_cell : (row r : ℕ) (why : NotSet NotedVerdicts) → IfTaken why (AreKnownAt row r) → TellsTaken row r (of_unset why) (taken_note why)
 tells_cell row r unset.OutOfMemory known = refl
 tells_cell row r (unset.Taken note) known = (note, refl, known)
 
 -- the cell is that of the request's row and of the resolver
-pub tells_next : (config : Config) (v : LockedResolverView) (q : RequestView) (rec : Record) (before : ColumnView) (why : Unset NotedVerdicts) → ComesNext config v q rec → IsLockedResolver config v → before.rows.first ≡ 0 → before.rows.known ≡ v.column → before.resolver ≡ v.memory.number
+pub tells_next : (config : Config) (v : LockedResolverView) (q : RequestView) (rec : Record) (before : ColumnView) (why : NotSet NotedVerdicts) → ComesNext config v q rec → IsLockedResolver config v → before.rows.first ≡ 0 → before.rows.known ≡ v.column → before.resolver ≡ v.memory.number
     → IfTaken why (AreKnownAt (end_of before.rows) before.resolver) → TellsTaken q.plain.row v.memory.number (of_unset why) (taken_note why)
 tells_next config v q rec before why next keeps first known own told =
     let many : length before.rows.known ≡ length v.records = ap length known ∙ keeps.cells in

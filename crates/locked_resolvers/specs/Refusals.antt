@@ -1,8 +1,8 @@
 -- The refusals of locked resolvers and proxies, in the model's words; and the numbers and names of
 -- refusals (this project's profile).
 use Rattle.std.specs.Prelude.{ℕ, List, codes, Option, Some, None}
-use Rattle.facts.specs.declared.setting.Unset.{Unset}
-use Rattle.facts.specs.declared.setting.Unset.TheVariants as unset
+use Rattle.facts.specs.declared.setting.NotSet.{NotSet}
+use Rattle.facts.specs.declared.setting.NotSet.TheVariants as unset
 use Rattle.locked_resolvers.specs.declared.refusal.Refusal.{Refusal}
 use Rattle.locked_resolvers.specs.declared.refusal.Refusal.TheVariants as refusals
 use Rattle.state_memory.specs.declared.refusal.Refusal.{Refusal as OfferRefusal}
@@ -48,11 +48,11 @@ of_offer offered.OutOfMemory = refusals.OutOfMemory
 
 -- Why a request that comes next was not judged: `OutOfMemory` if an allocation failed, and
 -- `CellTaken` if the verdict cell of its row held verdicts before.
-abbrev pub of_unset : {K : Type 0} → Unset K → Refusal
+abbrev pub of_unset : {K : Type 0} → NotSet K → Refusal
 of_unset unset.OutOfMemory = refusals.OutOfMemory
 of_unset (unset.Taken note) = refusals.CellTaken
 
 -- what is known of the cell, if it is taken
-abbrev pub taken_note : {K : Type 0} → Unset K → Option K
+abbrev pub taken_note : {K : Type 0} → NotSet K → Option K
 taken_note unset.OutOfMemory = None
 taken_note (unset.Taken note) = Some note

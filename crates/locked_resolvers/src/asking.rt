@@ -1,4 +1,4 @@
-//! How a proxy asks the resolvers.
+//! The trait of a way to ask resolvers and to wait for their replies.
 
 use crate::noted_reply::NotedReply;
 use crate::refusal::Refusal;

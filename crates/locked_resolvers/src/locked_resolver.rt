@@ -1,4 +1,5 @@
-//! A resolver as it stands under its lock.
+//! A resolver as it is while its lock is held: it judges into its verdict cells, repeats replies,
+//! refuses and closes.
 
 ghost use Rattle.std.specs.Prelude.{◌≡◌, ◌<◌, ◌≤◌, length, Ok, IfOk, IfErr, OnOk, OnErr, IsFalse};
 ghost use Rattle.facts.specs.Stretches.{appended, end_of};
@@ -18,7 +19,7 @@ use crate::refusal::Refusal;
 use crate::refused::Refused;
 use crate::request::Request;
 use agreed_ledger::{Column, Ledger, Naming, Records, VerdictNote};
-use facts::Unset;
+use facts::NotSet;
 use model::{Reply, ResolverNumber, Version};
 use request_builder::Request as PlainRequest;
 use share_judge::Verdicts;
@@ -64,7 +65,7 @@ impl<N: Naming> Model for LockedResolver<N> {
 
 /// What judging a request gives: the reply, and the column that has the new cell, twice.
 #[derive(Drop)]
-struct Gained<N: Naming> {
+struct JudgedReply<N: Naming> {
     reply: Reply,
     column: Column<N>,
     noted: Column<N>,
@@ -188,7 +189,7 @@ impl<N: Naming> LockedResolver<N> {
         if self.memory.comes_next(request.plain()) {
             self.judge(ledger, request)
         } else {
-            self.repeat(request)
+            self.repeat_or_refuse(request)
         }
     }
 
@@ -218,7 +219,7 @@ impl<N: Naming> LockedResolver<N> {
         let _rows = ledger.rows();
         match judge_into_cell(&mut self.memory, &self.column, ledger, request.plain()) {
             Ok(
-                Gained {
+                JudgedReply {
                     reply,
                     column,
                     noted,
@@ -237,7 +238,7 @@ impl<N: Naming> LockedResolver<N> {
     }
 
     /// Gives a request that does not come next its reply again, or refuses it.
-    fn repeat(&mut self, request: Request<N>) -> Result<NotedReply<N>, Refused<N>>
+    fn repeat_or_refuse(&mut self, request: Request<N>) -> Result<NotedReply<N>, Refused<N>>
         requires open { IsFalse self.old.closed }
         requires other { course self.old.memory request.plain ≡ Ok way.Judge → ⊥ }
         ensures offered { IfOk result (HasOffered self.old request self.new) }
@@ -271,7 +272,7 @@ fn judge_into_cell<N: Naming>(
     column: &Column<N>,
     ledger: &Ledger<N>,
     request: &PlainRequest,
-) -> Result<Gained<N>, Unset<VerdictNote<N>>>
+) -> Result<JudgedReply<N>, NotSet<VerdictNote<N>>>
     requires next { course memory.old request.now ≡ Ok way.Judge }
     requires room { end_of column.now.rows < length (verdict_cells N.cells column.now.resolver) }
     ensures reply { IfOk result (λ gained.
@@ -290,13 +291,13 @@ fn judge_into_cell<N: Naming>(
     match memory.judge_with(request, |verdicts| column_with(column, ledger, verdicts)) {
         Ok((reply, columns)) => {
             let (column, noted) = columns;
-            Ok(Gained {
+            Ok(JudgedReply {
                 reply,
                 column,
                 noted,
             })
         }
-        Err(NotJudged::OutOfMemory(_keep)) => Err(Unset::OutOfMemory),
+        Err(NotJudged::OutOfMemory(_keep)) => Err(NotSet::OutOfMemory),
         Err(NotJudged::NotKept(unset)) => Err(unset),
     }
 }
@@ -309,7 +310,7 @@ fn column_with<N: Naming>(
     column: &Column<N>,
     ledger: &Ledger<N>,
     verdicts: Verdicts,
-) -> Result<(Column<N>, Column<N>), Unset<VerdictNote<N>>>
+) -> Result<(Column<N>, Column<N>), NotSet<VerdictNote<N>>>
     requires { end_of column.now.rows < length (verdict_cells N.cells column.now.resolver) }
     ensures column { IfOk result (λ made. made.0
         ≡ with_rows column.now (appended column.now.rows verdicts)) }
@@ -318,7 +319,7 @@ fn column_with<N: Naming>(
         IfTaken unset (AreKnownAt (end_of column.now.rows) column.now.resolver)) }
 {
     let Ok(mut more) = column.copy() else {
-        return Err(Unset::OutOfMemory);
+        return Err(NotSet::OutOfMemory);
     };
     match more.set_and_copy(ledger, verdicts) {
         Ok(noted) => Ok((more, noted)),

@@ -1,4 +1,4 @@
-//! A reply that crosses threads.
+//! A reply with the records and verdict cells that it follows from.
 
 ghost use Rattle.std.specs.Prelude.{◌≡◌};
 ghost use Rattle.locked_resolvers.specs.NotedReplies.{IsNotedReply};

@@ -1,4 +1,4 @@
-//! Why a request was not served.
+//! A request that was not served, with the reason.
 
 ghost use Rattle.std.specs.Prelude.{◌≡◌, None};
 ghost use Rattle.locked_resolvers.specs.Refusals.{of_unset, taken_note};
@@ -6,7 +6,7 @@ ghost use Rattle.locked_resolvers.specs.Refusals.{of_unset, taken_note};
 use crate::refusal::Refusal;
 use crate::request::Request;
 use agreed_ledger::{Naming, VerdictNote};
-use facts::Unset;
+use facts::NotSet;
 
 /// Why a request was not served, and the request.
 #[derive(Drop)]
@@ -35,14 +35,14 @@ impl<N: Naming> Refused<N> {
 
     /// The request came next, and its cell was not set. If an allocation failed, the refusal is
     /// `OutOfMemory`, never `CellTaken`; if the cell held verdicts before, it is `CellTaken`.
-    pub(crate) fn unset(why: Unset<VerdictNote<N>>, request: Request<N>) -> Refused<N>
+    pub(crate) fn unset(why: NotSet<VerdictNote<N>>, request: Request<N>) -> Refused<N>
         ensures refusal { result.refusal ≡ of_unset why }
         ensures request { result.request ≡ request }
         ensures taken { result.taken ≡ taken_note why }
     {
         match why {
-            Unset::OutOfMemory => Refused::by(Refusal::OutOfMemory, request),
-            Unset::Taken(note) => Refused {
+            NotSet::OutOfMemory => Refused::by(Refusal::OutOfMemory, request),
+            NotSet::Taken(note) => Refused {
                 refusal: Refusal::CellTaken,
                 request,
                 taken: Some(note),

@@ -1,4 +1,4 @@
-//! A request that crosses threads.
+//! A request with the records up to its row, as it goes from thread to thread.
 
 ghost use Rattle.std.specs.Prelude.{◌≡◌, IfOk};
 ghost use Rattle.locked_resolvers.specs.Requests.{HasRowVersions, IsRequestFor};
@@ -103,7 +103,7 @@ impl<N: Naming> Request<N> {
         records
     }
 
-    /// Returns a deep copy. Fails only with `OutOfMemory`.
+    /// Returns an equal copy. Fails only with `OutOfMemory`.
     pub fn copy(&self) -> Result<Request<N>, OutOfMemory>
         ensures { IfOk result (λ copy. copy ≡ self.now) }
     {

@@ -3,7 +3,7 @@ use Rattle.std.proofs.Common.{◌≡◌, refl, ap, ◌∙◌, ℕ, List, [], ◌
 use Rattle.std.specs.Global.{Vec}
 use Rattle.std.specs.BTreeMap.{insert_entry}
 use Rattle.system_keys.specs.Keys.{Key}
-use Rattle.system_keys.specs.Families.{is_kept}
+use Rattle.system_keys.specs.Families.{is_kept_key}
 use Rattle.model.specs.Metadata.{Entries, entry_value}
 use Rattle.metadata.specs.MapEntries.{bytes_of_keys}
 use Rattle.metadata.specs.Overwrites.{is_same_key, is_listed}
@@ -11,7 +11,7 @@ use Rattle.metadata.specs.CachedTags.{names_server, IsBlanked}
 use Rattle.metadata.proofs.KeyValues.{key_cmp, same_key, value_put}
 
 abbrev pub is_blank_key : Key → Bool
-is_blank_key key = names_server key && is_kept key
+is_blank_key key = names_server key && is_kept_key key
 
 abbrev pub AreBlanking : (keys : List Key) (left : List (Vec ℕ)) (old now : Entries) → Type 0
 AreBlanking keys left old now =
@@ -38,11 +38,11 @@ pub all_blanked : (keys : List Key) (old now : Entries) → AreBlanking keys [] 
 all_blanked keys old now done = λ key. none_left (is_blank_key key) (entry_value now key) ∙ done key
 
 -- a Set of the key
-pub blanked_key : (old new : Entries) (key : Key) (value : List ℕ) → names_server key ≡ true → new ≡ (if is_kept key then insert_entry key_cmp old key value else old)
+pub blanked_key : (old new : Entries) (key : Key) (value : List ℕ) → names_server key ≡ true → new ≡ (if is_kept_key key then insert_entry key_cmp old key value else old)
     → (other : Key) → entry_value new other ≡ (if is_blank_key other && is_same_key other key then Some value else entry_value old other)
-blanked_key old new key value server is other = ap (λ (rows : Entries). entry_value rows other) is ∙ by (is_kept key) refl (is_same_key other key) refl
+blanked_key old new key value server is other = ap (λ (rows : Entries). entry_value rows other) is ∙ by (is_kept_key key) refl (is_same_key other key) refl
   where
-    counts : (s : Bool) → is_same_key other key ≡ s → s ≡ true → is_blank_key other ≡ is_kept key
+    counts : (s : Bool) → is_same_key other key ≡ s → s ≡ true → is_blank_key other ≡ is_kept_key key
     counts true same h = ap is_blank_key (same_key other key same) ∙ rw server refl
     counts false other_is h = absurd (cc)
 
@@ -50,7 +50,7 @@ blanked_key old new key value server is other = ap (λ (rows : Entries). entry_v
     nothing true = refl
     nothing false = refl
 
-    by : (k : Bool) → is_kept key ≡ k → (s : Bool) → is_same_key other key ≡ s → entry_value (if k then insert_entry key_cmp old key value else old) other ≡ (if is_blank_key other && s then Some value else entry_value old other)
+    by : (k : Bool) → is_kept_key key ≡ k → (s : Bool) → is_same_key other key ≡ s → entry_value (if k then insert_entry key_cmp old key value else old) other ≡ (if is_blank_key other && s then Some value else entry_value old other)
     by true kept true same =
         let c : is_blank_key other ≡ true = counts true same refl ∙ kept in
         value_put old key other value ∙ rw (same, c) refl

@@ -5,7 +5,7 @@ use Rattle.std.specs.Option.{is_some, option_or}
 use Rattle.std.specs.BTreeMap.{is_at}
 use Rattle.std.proofs.lemmas.Map.Entries.{lookup-filter-keys}
 use Rattle.system_keys.specs.Keys.{Key}
-use Rattle.system_keys.specs.Families.{is_kept}
+use Rattle.system_keys.specs.Families.{is_kept_key}
 use Rattle.model.specs.Metadata.{Entry, Entries, IsInOrder, AreKept, entry_value}
 use Rattle.model.proofs.Members.{Has, Has-from_Contains, Contains-from_Has, Has-from_filter}
 use Rattle.model.proofs.Metadata.Entries.{filter_in_order}
@@ -72,12 +72,12 @@ without_kept_in_order keys old new fine is =
     left : Entry → Bool
     left row = not (is_listed keys row.0)
 
-pub value_kept : (rows : Entries) (key : Key) → ((row : Entry) → Has rows row → is_kept row.0 ≡ true) → has_entry rows key ≡ true → is_kept key ≡ true
+pub value_kept : (rows : Entries) (key : Key) → ((row : Entry) → Has rows row → is_kept_key row.0 ≡ true) → has_entry rows key ≡ true → is_kept_key key ≡ true
 value_kept [] key all has = absurd (cc)
 value_kept (row ∷ rows) key all has = by (is_same_key key row.0) refl has (value_kept rows key (λ r there. all r (inr there)))
   where
-    by : (s : Bool) → is_same_key key row.0 ≡ s → is_some (cond s (Some row.1) (entry_value rows key)) ≡ true → (has_entry rows key ≡ true → is_kept key ≡ true) → is_kept key ≡ true
-    by true same h rest = ap is_kept (same_key key row.0 same) ∙ all row (inl refl)
+    by : (s : Bool) → is_same_key key row.0 ≡ s → is_some (cond s (Some row.1) (entry_value rows key)) ≡ true → (has_entry rows key ≡ true → is_kept_key key ≡ true) → is_kept_key key ≡ true
+    by true same h rest = ap is_kept_key (same_key key row.0 same) ∙ all row (inl refl)
     by false same h rest = rest h
 
 there_at : (s : Bool) (value : List ℕ) (found : Option (List ℕ)) → is_some found ≡ true → is_some (cond s (Some value) found) ≡ true
@@ -96,7 +96,7 @@ either_there (Some value) was h none = absurd (cc)
 pub over_kept : (puts old new : Entries) → AreKept puts → AreKept old → IsPutOver puts old new → AreKept new
 over_kept puts old new put_kept old_kept over = λ row there. by row.0 (ap is_some (sym (over row.0)) ∙ has_value new row (Has-from_Contains new row there)) (has_entry puts row.0) refl
   where
-    by : (key : Key) → is_some (option_or (entry_value puts key) (entry_value old key)) ≡ true → (p : Bool) → has_entry puts key ≡ p → is_kept key ≡ true
+    by : (key : Key) → is_some (option_or (entry_value puts key) (entry_value old key)) ≡ true → (p : Bool) → has_entry puts key ≡ p → is_kept_key key ≡ true
     by key there true put = value_kept puts key (λ row has. put_kept row (Contains-from_Has puts row has)) put
     by key there false put = value_kept old key (λ row has. old_kept row (Contains-from_Has old row has)) (either_there (entry_value puts key) (entry_value old key) there put)
 

@@ -11,7 +11,7 @@ use Rattle.system_keys.specs.Locations.{location_at}
 use Rattle.system_keys.proofs.RowLaws.{ids_taken}
 use Rattle.system_keys.proofs.LocationLaws.{servers_alone}
 use Rattle.model.specs.Metadata.{Entry, Entries, entry_value, all_servers, servers_of, listed_tags, server_tags, sorted_tags}
-use Rattle.metadata.specs.CachedTags.{Names, names_by, tag_by, tags_by}
+use Rattle.metadata.specs.CachedTags.{names_by, tag_by, tags_by}
 use Rattle.metadata.specs.ServerTables.{ServerTags, GiveTags, tag_listed, tags_named}
 
 -- ---- each server that a value names has an id of 16 bytes
@@ -82,10 +82,11 @@ tags_gathered servers entries value give =
     ap (λ (named : List Tag). sorted_tags (named ++ listed_tags value)) (same_tags (tag_listed servers) (tag_by (entry_value entries)) (servers_of value) (named_wide value) give)
 
 -- those of a row that was found, if one was
-pub found_gathered : (servers : ServerTags) (entries : Entries) (names : Option Names) (found : Option Entry) → GiveTags servers entries → names ≡ option_map (λ (entry : Entry). names_by entry.1) found
-    → option_map (tags_named servers) names ≡ option_map (λ (entry : Entry). tags_by (entry_value entries) entry.1) found
-found_gathered servers entries names found give is = ap (option_map (tags_named servers)) is ∙ by found
+pub found_gathered : (servers : ServerTags) (entries : Entries) (value : Option (List ℕ)) (found : Option Entry) → GiveTags servers entries → value ≡ option_map (λ (entry : Entry). entry.1) found
+    → option_map (λ (value : List ℕ). tags_named servers (names_by value)) value ≡ option_map (λ (entry : Entry). tags_by (entry_value entries) entry.1) found
+found_gathered servers entries value found give is = ap (option_map (λ (value : List ℕ). tags_named servers (names_by value))) is ∙ by found
   where
-    by : (found : Option Entry) → option_map (tags_named servers) (option_map (λ (entry : Entry). names_by entry.1) found) ≡ option_map (λ (entry : Entry). tags_by (entry_value entries) entry.1) found
+    by : (found : Option Entry)
+        → option_map (λ (value : List ℕ). tags_named servers (names_by value)) (option_map (λ (entry : Entry). entry.1) found) ≡ option_map (λ (entry : Entry). tags_by (entry_value entries) entry.1) found
     by None = refl
     by (Some entry) = ap Some (tags_gathered servers entries entry.1 give)

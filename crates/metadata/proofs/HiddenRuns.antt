@@ -22,7 +22,6 @@ use Rattle.metadata.specs.Overwrites.{is_same_key, is_listed, has_entry}
 use Rattle.metadata.specs.HiddenRuns.{Run, runs_of, IsHiddenRun, AreHiddenRuns, is_serving_before, is_serving_after}
 use Rattle.metadata.proofs.KeyValues.{key_cmp, same_key, Behind, first_behind, rest_in_order}
 use Rattle.metadata.proofs.MapEntries.{vec_cmp, filtered}
-use Rattle.metadata.proofs.KeptTags.{AreKeyServers}
 use Rattle.metadata.proofs.ServingEntries.{is_left, last_left, same_number, not_up_to, up_to_behind, inside_behind}
 
 -- the row is before the key
@@ -80,7 +79,7 @@ behind_at key [] row rest all = ap is_lt all.0
 behind_at key (first ∷ front) row rest all = behind_at key front row rest all.1
 
 -- of rows in order, each in front of `row` has a smaller key
-front_below : (front : Entries) (row : Entry) (rest : Entries) (other : Entry) → IsInOrder (front ++ row ∷ rest) → Has front other → is_key_below other.0 row.0 ≡ true
+pub front_below : (front : Entries) (row : Entry) (rest : Entries) (other : Entry) → IsInOrder (front ++ row ∷ rest) → Has front other → is_key_below other.0 row.0 ≡ true
 front_below [] row rest other s h = absurd h
 front_below (first ∷ front) row rest other s (inl same) = ap (λ (e : Entry). is_key_below e.0 row.0) (sym same) ∙ behind_at first.0 front row rest (first_behind first (front ++ row ∷ rest) s)
 front_below (first ∷ front) row rest other s (inr there) = front_below front row rest other (rest_in_order first (front ++ row ∷ rest) s) there
@@ -99,7 +98,7 @@ left_of_before p q (row ∷ rows) all = by (q row) refl (p row) refl (left_of_be
     by false h false k rest = rest
 
 -- the rows that pass both tests are those that pass `q`, of those that pass `p`
-both_tests : (p q : Entry → Bool) (rows : Entries) → filter (λ (row : Entry). p row && q row) rows ≡ filter q (filter p rows)
+pub both_tests : (p q : Entry → Bool) (rows : Entries) → filter (λ (row : Entry). p row && q row) rows ≡ filter q (filter p rows)
 both_tests p q [] = refl
 both_tests p q (row ∷ rows) = by (p row) (q row) refl (both_tests p q rows)
   where
@@ -245,7 +244,7 @@ pub between_both : (es : List (Vec ℕ × List ℕ)) (first last : Vec ℕ) → 
 between_both es first last = filtered (λ (row : Entry). is_key_up_to first.items row.0 && not (is_key_below last.items row.0)) es
 
 -- a comparison turned round is greater if it was less
-forward : (r : Ordering) → is_gt (ordering_reverse r) ≡ is_lt r
+pub forward : (r : Ordering) → is_gt (ordering_reverse r) ≡ is_lt r
 forward Less = refl
 forward Equal = refl
 forward Greater = refl
@@ -271,7 +270,7 @@ before_behind (x ∷ p) b (y ∷ k) =
     by Greater rest = refl
 
 -- a prefix of a key is not after it
-prefix_first : (p b : Key) → is_gt (key_cmp p (p ++ b)) ≡ false
+pub prefix_first : (p b : Key) → is_gt (key_cmp p (p ++ b)) ≡ false
 prefix_first [] [] = refl
 prefix_first [] (y ∷ b) = refl
 prefix_first (x ∷ p) b = rw (tied_itself nat_cmp_total x) (prefix_first p b)
@@ -314,7 +313,7 @@ between_before es least key low own =
 -- ---- the rows that may serve a key are the first of all keyServers rows
 
 -- a key from `p` up to `p ++ b`, with that one, is one that begins with `p` and is not after `p ++ b`
-up_to_whole : (p b k : Key) → (is_key_up_to p k && not (is_key_below (p ++ b) k)) ≡ (starts_with nat_eq k p && not (is_key_below (p ++ b) k))
+pub up_to_whole : (p b k : Key) → (is_key_up_to p k && not (is_key_below (p ++ b) k)) ≡ (starts_with nat_eq k p && not (is_key_below (p ++ b) k))
 up_to_whole [] b [] = refl
 up_to_whole [] b (y ∷ k) = refl
 up_to_whole (x ∷ p) b [] = refl
@@ -545,9 +544,3 @@ none_after es key end range high past =
     ∙ ap (λ (t : Bool). t && is_key_below key.items row.0) (inside_behind prefix range.begin range.end row.0) in
     filtered (λ (row : Entry). is_key_up_to end.items row.0 && not (is_key_up_to end.items row.0)) es
     ∙ ap (λ (p : Entry → Bool). filter p (entries_of es)) (λ i row. same row i)
-
--- what is inside a range and after a key are keyServers rows
-pub own_after : (rows : Entries) (key : Key) (range : Range) (es : List (Vec ℕ × List ℕ)) → entries_of es ≡ filter (is_serving_after key range) rows → AreKeyServers es
-own_after rows key range es is = λ entry has.
-    let passes : is_serving_after key range entry ≡ true = (Has-from_filter (is_serving_after key range) rows entry (subst (λ (list : Entries). Has list entry) is has)).1 in
-    (both_true (is_key_servers entry) (is_entry_inside range (behind_prefix entry)) (both_true (is_serving_inside range entry) (is_key_below key entry.0) passes).0).0

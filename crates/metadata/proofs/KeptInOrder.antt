@@ -5,7 +5,7 @@ use Rattle.std.specs.Cmp.Lexicographic.{slice_cmp}
 use Rattle.system_keys.specs.declared.change.Change.{Change}
 use Rattle.system_keys.specs.declared.change.Change.TheVariants.{Set}
 use Rattle.system_keys.specs.Keys.{Key}
-use Rattle.system_keys.specs.Families.{is_kept}
+use Rattle.system_keys.specs.Families.{is_kept_key}
 use Rattle.model.specs.Metadata.{Entries, IsInOrder, AreKept, after_change, metadata}
 use Rattle.model.proofs.Metadata.Entries.{metadata_in_order, changed_in_order}
 use Rattle.model.proofs.Metadata.Changes.{metadata_kept, kept_after_change}
@@ -24,6 +24,6 @@ none_kept_in_order rows none = subst AreKeptInOrder (sym none) no_rows
 pub changed_kept_in_order : (old new : Entries) (change : Change) → AreKeptInOrder old → new ≡ after_change old change → AreKeptInOrder new
 changed_kept_in_order old new change fine is = subst AreKeptInOrder (sym is) (changed_in_order old change fine.0, kept_after_change old change fine.1)
 
-pub put_kept_in_order : (old new : Entries) (key : Key) (value : List ℕ) → AreKeptInOrder old → is_kept key ≡ true → new ≡ insert_entry (slice_cmp nat_cmp) old key value → AreKeptInOrder new
+pub put_kept_in_order : (old new : Entries) (key : Key) (value : List ℕ) → AreKeptInOrder old → is_kept_key key ≡ true → new ≡ insert_entry (slice_cmp nat_cmp) old key value → AreKeptInOrder new
 put_kept_in_order old new key value fine kept is =
     changed_kept_in_order old new (Set key value) fine (is ∙ ap (λ (own : Bool). if own then insert_entry (slice_cmp nat_cmp) old key value else old) (sym kept))

@@ -1,5 +1,5 @@
 -- The tags that are looked up are those of the rows that serve a key, or that a range holds.
-use Rattle.std.proofs.Common.{◌≡◌, refl, sym, ap, ◌∙◌, subst, ℕ, ◌-◌, length, take, drop, length-drop, List, [], ◌∷◌, ◌++◌, append-nil, flat_map, Bool, true, false, cond, if◌then◌else◌, ◌&&◌, Option, Some, None, option_map, option_to_list, filter, inl, inr}
+use Rattle.std.proofs.Common.{◌≡◌, refl, sym, ap, ◌∙◌, subst, ℕ, zero, suc, ◌-◌, ◌<◌, arith, length, take, drop, length-drop, List, [], ◌∷◌, ◌++◌, append-nil, flat_map, Bool, true, false, cond, if◌then◌else◌, ◌&&◌, Option, Some, None, option_map, option_to_list, filter, inl, inr}
 use Rattle.std.specs.Global.{Vec}
 use Rattle.std.proofs.Math.Seq.{take-length}
 use Rattle.system_keys.specs.declared.tag.Tag.{Tag}
@@ -12,10 +12,9 @@ use Rattle.std.specs.Prelude.{slice_get}
 use Rattle.metadata.proofs.RouteEntries.{same_route}
 use Rattle.metadata.specs.OwnRoutes.{own_routes}
 use Rattle.metadata.specs.MapEntries.{entry_from, entries_of}
-use Rattle.metadata.specs.Overwrites.{is_same_key, is_listed, entries_without}
-use Rattle.metadata.specs.CachedTags.{Names, NamesAt, AreNames, names_by, tags_by}
+use Rattle.metadata.specs.Overwrites.{is_same_key}
+use Rattle.metadata.specs.CachedTags.{tags_by}
 use Rattle.metadata.proofs.KeyValues.{same_key, none_behind, first_behind, rest_in_order, first_value}
-use Rattle.metadata.proofs.EntriesLeft.{value_without}
 use Rattle.metadata.proofs.Tags.{added}
 use Rattle.metadata.proofs.SortedTags.{resorted}
 
@@ -31,26 +30,12 @@ value_of (r ∷ rows) row s (inr there) = by (is_same_key row.0 r.0) refl (value
         let none : Some row.1 ≡ None = sym value ∙ ap (entry_value rows) (same_key row.0 r.0 same) ∙ none_behind r.0 rows (first_behind r rows s) in absurd (cc)
     by false other value = value
 
--- each entry of the map is one of the metadata, and a keyServers row if it passes
+-- each entry of the map is one of the metadata
 abbrev pub AreRows : (rows : Entries) (es : List (Vec ℕ × List ℕ)) → Type 0
 AreRows rows es = (entry : Entry) → Has (entries_of es) entry → entry_value rows entry.0 ≡ Some entry.1
 
-abbrev pub AreKeyServers : List (Vec ℕ × List ℕ) → Type 0
-AreKeyServers es = (entry : Entry) → Has (entries_of es) entry → is_key_servers entry ≡ true
-
-pub all_rows : (rows : Entries) (es : List (Vec ℕ × List ℕ)) → IsInOrder rows → entries_of es ≡ rows → AreRows rows es
-all_rows rows es s is = λ entry has. value_of rows entry s (subst (λ (found : Entries). Has found entry) is has)
-
 pub rows_passing : (rows : Entries) (p : Entry → Bool) (es : List (Vec ℕ × List ℕ)) → IsInOrder rows → entries_of es ≡ filter p rows → AreRows rows es
 rows_passing rows p es s is = λ entry has. value_of rows entry s (Has-from_filter p rows entry (subst (λ (found : Entries). Has found entry) is has)).0
-
-and_left : (a b : Bool) → (a && b) ≡ true → a ≡ true
-and_left true b h = refl
-and_left false b h = absurd (cc)
-
-pub key_servers_passing : (rows : Entries) (p : Entry → Bool) (es : List (Vec ℕ × List ℕ)) → entries_of es ≡ filter (λ (entry : Entry). is_key_servers entry && p entry) rows → AreKeyServers es
-key_servers_passing rows p es is = λ entry has.
-    and_left (is_key_servers entry) (p entry) (Has-from_filter (λ (e : Entry). is_key_servers e && p e) rows entry (subst (λ (found : Entries). Has found entry) is has)).1
 
 pub both_of : (es fs : List (Vec ℕ × List ℕ)) → entries_of (es ++ fs) ≡ entries_of es ++ entries_of fs
 both_of [] fs = refl
@@ -58,15 +43,6 @@ both_of (e ∷ es) fs = ap (λ (rest : Entries). entry_from e ∷ rest) (both_of
 
 pub has_front : (es fs : List (Vec ℕ × List ℕ)) (entry : Entry) → Has (entries_of es) entry → Has (entries_of (es ++ fs)) entry
 has_front es fs entry has = subst (λ (found : Entries). Has found entry) (sym (both_of es fs)) (Has-append_left (entries_of es) (entries_of fs) entry has)
-
-pub has_last : (es : List (Vec ℕ × List ℕ)) (e : Vec ℕ × List ℕ) → Has (entries_of (es ++ e ∷ [])) (entry_from e)
-has_last es e = subst (λ (found : Entries). Has found (entry_from e)) (sym (both_of es (e ∷ []))) (Has-append_right (entries_of es) (entries_of (e ∷ [])) (entry_from e) (inl refl))
-
--- what is kept for a row that is not hidden
-pub names_shown_at : (hidden : List Key) (rows : Entries) (lists : NamesAt) (entry : Entry) → AreNames lists (entry_value (entries_without hidden rows)) → is_listed hidden entry.0 ≡ false → entry_value rows entry.0 ≡ Some entry.1 → is_key_servers entry ≡ true
-    → lists entry.0 ≡ Some (names_by entry.1)
-names_shown_at hidden rows lists entry are shows there own =
-    are entry.0 entry.1 own (value_without hidden rows entry.0 ∙ ap (λ (t : Bool). if t then None else entry_value rows entry.0) shows ∙ there)
 
 -- ---- the tags of a change
 
@@ -98,20 +74,8 @@ row_added rows before row = ap (added before) (own_tags rows row) ∙ resorted b
 
 -- ---- one entry after another
 
-first_row : (e : Vec ℕ × List ℕ) (es : List (Vec ℕ × List ℕ)) → Has (entries_of (e ∷ es)) (entry_from e)
-first_row e es = inl refl
-
-pub row_first : (rows : Entries) (e : Vec ℕ × List ℕ) (es left : List (Vec ℕ × List ℕ)) → left ≡ e ∷ es → AreRows rows left → entry_value rows e.0.items ≡ Some e.1
-row_first rows e es left is all = subst (AreRows rows) is all (entry_from e) (first_row e es)
-
-pub own_first : (e : Vec ℕ × List ℕ) (es left : List (Vec ℕ × List ℕ)) → left ≡ e ∷ es → AreKeyServers left → is_key_servers (entry_from e) ≡ true
-own_first e es left is all = subst AreKeyServers is all (entry_from e) (first_row e es)
-
 pub rows_rest : (rows : Entries) (e : Vec ℕ × List ℕ) (es left : List (Vec ℕ × List ℕ)) → left ≡ e ∷ es → AreRows rows left → AreRows rows es
 rows_rest rows e es left is all = λ entry has. subst (AreRows rows) is all entry (inr has)
-
-pub own_rest : (e : Vec ℕ × List ℕ) (es left : List (Vec ℕ × List ℕ)) → left ≡ e ∷ es → AreKeyServers left → AreKeyServers es
-own_rest e es left is all = λ entry has. subst AreKeyServers is all entry (inr has)
 
 -- ---- the row at a place
 
@@ -139,8 +103,21 @@ row_at row rest before total own first is =
     let here : slice_get (key_servers_entries (row ∷ rest)) 0 ≡ Some (behind_prefix row) = rw own refl in
     sym here ∙ ap (slice_get (key_servers_entries (row ∷ rest))) (sym first) ∙ is
 
-pub some_names : (a b : Names) → Some a ≡ Some b → a ≡ b
-some_names a b h = cc
+-- one that is no keyServers row is passed
+pub row_passed : (row : Entry) (rest : Entries) (before : ℕ) (total : Option Entry) → is_key_servers row ≡ false → slice_get (key_servers_entries (row ∷ rest)) before ≡ total → slice_get (key_servers_entries rest) before ≡ total
+row_passed row rest before total out is =
+    let here : slice_get (key_servers_entries (row ∷ rest)) before ≡ slice_get (key_servers_entries rest) before = rw out refl in
+    sym here ∙ is
+
+next_place : (row : Entry) (rows : Entries) (place : ℕ) → 0 < place → slice_get rows (place - 1) ≡ slice_get (row ∷ rows) place
+next_place row rows zero more = absurd (omega arith)
+next_place row rows (suc n) more =
+    let less : suc n - 1 ≡ n = omega arith in ap (slice_get rows) less
+
+pub row_later : (row : Entry) (rest : Entries) (before : ℕ) (total : Option Entry) → is_key_servers row ≡ true → 0 < before → slice_get (key_servers_entries (row ∷ rest)) before ≡ total → slice_get (key_servers_entries rest) (before - 1) ≡ total
+row_later row rest before total own more is =
+    let here : slice_get (key_servers_entries (row ∷ rest)) before ≡ slice_get (behind_prefix row ∷ key_servers_entries rest) before = rw own refl in
+    next_place (behind_prefix row) (key_servers_entries rest) before more ∙ sym here ∙ is
 
 -- the route that is added is the own route of the entry
 pub route_added : (all : Entries) (key : Key) (value : List ℕ) (found : List Tag) (route : Route) → is_in key_servers_family key ≡ true → found ≡ tags_by (entry_value all) value

@@ -1,5 +1,5 @@
 -- Which keys a set has, after one more and after several.
-use Rattle.std.proofs.Common.{◌≡◌, refl, sym, ap, ◌∙◌, ℕ, List, [], ◌∷◌, ◌++◌, filter, Bool, true, false, cond, not, ◌&&◌, ◌||◌, Option, Some, None, is_eq, Ordering, Less, Equal, Greater, nat_cmp}
+use Rattle.std.proofs.Common.{◌≡◌, refl, sym, ap, ◌∙◌, ℕ, length, List, [], ◌∷◌, ◌++◌, filter, Bool, true, false, cond, not, ◌&&◌, ◌||◌, Option, Some, None, is_eq, Ordering, Less, Equal, Greater, nat_cmp}
 use Rattle.std.specs.Global.{Vec}
 use Rattle.std.specs.List.{AllByRecursion, list_any}
 use Rattle.std.specs.List.Sorted.{IsStrictlySortedBy}
@@ -107,6 +107,11 @@ added_last keys front k old before after one so_far = λ other.
     ∙ grouped (is_listed (bytes_of_keys front) other) (is_same_key other k.items) (is_listed before other)
     ∙ ap (λ (t : Bool). t || is_listed before other) (sym (last_listed front k other))
     ∙ so_far other
+
+-- in the end no key is left
+pub none_left : {X : Type 0} (xs : List X) → length xs ≡ 0 → xs ≡ []
+none_left [] none = refl
+none_left (x ∷ xs) none = absurd (cc)
 
 -- ---- some of the keys, one after another
 

@@ -10,11 +10,10 @@ pub mod KeptInOrder
 pub mod KeptTags
 pub mod KeySets
 pub mod KeyValues
+pub mod LastServing
 pub mod ListedKeys
 pub mod MapEntries
 pub mod MetadataServers
-pub mod MetadataTags
-pub mod NamedRows
 pub mod Outcomes
 pub mod OverwrittenEntries
 pub mod PrivateCopies
@@ -25,6 +24,5 @@ pub mod ServerTables
 pub mod ServingEntries
 pub mod SortedTags
 pub mod StagedChanges
-pub mod TagEntries
 pub mod Tags
 pub mod WrittenEntries

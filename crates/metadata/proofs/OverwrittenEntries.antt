@@ -7,7 +7,7 @@ use Rattle.std.specs.BTreeMap.{insert_entry}
 use Rattle.system_keys.specs.declared.change.Change.{Change}
 use Rattle.system_keys.specs.declared.change.Change.TheVariants.{Set, Clear}
 use Rattle.system_keys.specs.Keys.{Key, Range, holds}
-use Rattle.system_keys.specs.Families.{is_kept}
+use Rattle.system_keys.specs.Families.{is_kept_key}
 use Rattle.model.specs.declared.journal.StateTxn.{StateTxn}
 use Rattle.model.specs.declared.journal.JournalRow.{JournalRow}
 use Rattle.model.specs.Metadata.{Entry, Entries, IsInOrder, entry_value, AreKept, after_change, after_changes, is_locked, after_state, after_journal_row}
@@ -49,7 +49,7 @@ abbrev pub IsOver : (key : Key) (cleared : Bool) (puts old now : Entries) → Ty
 IsOver key cleared puts old now = entry_value now key ≡ option_or (entry_value puts key) (if cleared then None else entry_value old key)
 
 pub over_change : (change : Change) (key : Key) (cleared : Bool) (puts old now : Entries) → IsOver key cleared puts old now → IsOver key (cleared || clears change key) (after_change puts change) old (after_change now change)
-over_change (Set k value) key cleared puts old now is = by (is_kept k) cleared is
+over_change (Set k value) key cleared puts old now is = by (is_kept_key k) cleared is
   where
     set : (s : Bool) (put was before : Option (List ℕ)) → was ≡ option_or put before → (if s then Some value else was) ≡ option_or (if s then Some value else put) before
     set true put was before h = refl

@@ -118,7 +118,7 @@ between_inside es begin end range low high =
 
 -- ---- entries that are not hidden
 
-filter_both : (p q : Entry → Bool) (rows : Entries) → filter p (filter q rows) ≡ filter q (filter p rows)
+pub filter_both : (p q : Entry → Bool) (rows : Entries) → filter p (filter q rows) ≡ filter q (filter p rows)
 filter_both p q [] = refl
 filter_both p q (row ∷ rows) = by (p row) refl (q row) refl (filter_both p q rows)
   where

@@ -6,12 +6,10 @@ pub mod MapEntries
 pub mod Overwrites
 -- the routes of entries, each with the tags of its own value
 pub mod OwnRoutes
--- the tags that are kept beside the entries
+-- what keyServers rows name, and their tags
 pub mod CachedTags
 -- the table of the servers' tags, and what brings it up to date
 pub mod ServerTables
--- the entries of a map to tags, as the tags at each key
-pub mod TagEntries
 -- runs of rows that are hidden
 pub mod HiddenRuns
 -- rows that are being applied, and can be taken back

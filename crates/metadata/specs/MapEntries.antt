@@ -1,5 +1,6 @@
 -- The entries of an ordered map from vectors of bytes to bytes, as the entries of the model.
 use Rattle.std.specs.Prelude.{ℕ, List, map, Bool, ◌&&◌}
+use Rattle.std.specs.Borrow.{Bor}
 use Rattle.std.specs.Global.{Vec}
 use Rattle.system_keys.specs.Keys.{Key, Range}
 use Rattle.model.specs.Metadata.{Entry, Entries, is_key_servers, behind_prefix}
@@ -12,6 +13,10 @@ entry_from entry = (entry.0.items, entry.1)
 -- the entries of the map, with the bytes of their keys
 abbrev pub entries_of : List (Vec ℕ × List ℕ) → Entries
 entries_of entries = map entry_from entries
+
+-- an entry of the map that is lent
+abbrev pub lent_entry : Bor (Vec ℕ) × Bor (List ℕ) → Entry
+lent_entry entry = (entry.0.now.items, entry.1.now)
 
 -- the bytes of each key
 abbrev pub bytes_of_keys : List (Vec ℕ) → List (List ℕ)

@@ -5,7 +5,7 @@ use Rattle.model.specs.declared.journal.JournalRow.{JournalRow}
 use Rattle.model.specs.Metadata.{Entries, IsInOrder, AreKept, entry_value}
 use Rattle.model.specs.Metadata.{after_journal_row}
 use Rattle.metadata.specs.Overwrites.{TakesBack, entries_without}
-use Rattle.metadata.specs.CachedTags.{KeyNames, NamesTakeBack, may_tag_some}
+use Rattle.metadata.specs.CachedTags.{may_tag_some}
 use Rattle.metadata.specs.ServerTables.{ServersTakeBack}
 
 -- the metadata after some rows of the journal, one after another
@@ -14,13 +14,11 @@ after_rows entries rows = fold after_journal_row entries rows
 
 -- What contracts see of rows that were started: the keys whose entries are still to be removed; the
 -- keys at which an entry was put and there was none; the entries that were displaced by others; the
--- names that were displaced; the keys of the serverTag entries that were put; and the lock before the
--- last row.
+-- keys of the serverTag entries that were put; and the lock before the last row.
 pub record Started : Type 0 where
   pub removed : List Key
   pub missing : List Key
   pub displaced : Entries
-  pub names : List KeyNames
   pub servers : List Key
   pub locked : Bool
 
@@ -32,9 +30,8 @@ pub record IsStarted (started : Started) (before after now : Entries) : Type 0 w
   pub takes : TakesBack started.missing started.displaced before now
   pub order : IsInOrder before
   pub kept : AreKept before
-  pub names : NamesTakeBack started.names (entry_value before) (entry_value now)
   pub servers : ServersTakeBack started.servers (entry_value before) (entry_value now)
-  pub blank : may_tag_some now started.removed ≡ false
+  pub blank_server_tags : may_tag_some now started.removed ≡ false
 
 -- the metadata is as it is because these rows were started, whatever it was before
 pub record HasStarted (started : Started) (now : Entries) : Type 0 where

@@ -1,4 +1,5 @@
-//! Which state transactions are applied to the metadata, and which entries they clear.
+//! Which state transactions of a row are committed and applied, and which keys and ranges they
+//! clear.
 
 ghost use Rattle.std.specs.Prelude.{◌≡◌, ◌++◌, ◌∷◌, [], IfOk, IfSome, OnOk};
 ghost use Rattle.std.specs.List.{list_all, list_any};
@@ -32,16 +33,19 @@ pub(crate) fn any_applied(locked: bool, transactions: &[StateTxn]) -> bool
 }
 
 /// The change that the transactions make, if they are one that is applied and has a single change.
-pub(crate) fn only_change<'a>(locked: bool, transactions: &'a [StateTxn]) -> Option<&'a Change>
+pub(crate) fn only_applied_change<'a>(
+    locked: bool,
+    transactions: &'a [StateTxn],
+) -> Option<&'a Change>
     ensures { IfSome result (λ change. changes_of locked transactions.now ≡ change.now ∷ []) }
 {
     match transactions {
-        [transaction] if is_applied(locked, transaction) => one_change(transaction),
+        [transaction] if is_applied(locked, transaction) => single_change(transaction),
         _ => None,
     }
 }
 
-fn one_change(transaction: &StateTxn) -> Option<&Change>
+fn single_change(transaction: &StateTxn) -> Option<&Change>
     ensures { IfSome result (λ change. transaction.now.mutations ≡ change.now ∷ []) }
 {
     match transaction.mutations.as_slice() {

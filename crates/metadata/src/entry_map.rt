@@ -1,7 +1,8 @@
 //! The entries that the metadata keeps, in the order of their keys.
 
 ghost use Rattle.std.specs.Prelude.{◌≡◌, ◌++◌, ◌&&◌, [], true, false, None, Some, IfOk, OnOk, OnErr};
-ghost use Rattle.std.specs.Prelude.{option_map, filter, not, if◌then◌else◌};
+ghost use Rattle.std.specs.Prelude.{option_map, filter, not, if◌then◌else◌, slice_get};
+ghost use Rattle.std.specs.List.{last_or};
 ghost use Rattle.std.specs.Option.{option_or};
 ghost use Rattle.std.specs.Ordering.{nat_cmp};
 ghost use Rattle.std.specs.BTreeMap.{insert_entry};
@@ -9,8 +10,8 @@ ghost use Rattle.std.specs.Cmp.Lexicographic.{slice_cmp};
 ghost use Rattle.std.specs.Map.{keys_of};
 ghost use Rattle.system_keys.specs.Keys.{Key, holds, is_key_below};
 ghost use Rattle.system_keys.specs.Families.{key_servers_family, is_in};
-ghost use Rattle.model.specs.Metadata.{Entries, IsInOrder, entry_value};
-ghost use Rattle.metadata.specs.MapEntries.{entries_of, bytes_of_keys};
+ghost use Rattle.model.specs.Metadata.{Entries, IsInOrder, entry_value, key_servers_entries};
+ghost use Rattle.metadata.specs.MapEntries.{entries_of, bytes_of_keys, lent_entry};
 ghost use Rattle.metadata.specs.MapEntries.{is_serving_up_to, is_serving_inside};
 ghost use Rattle.metadata.specs.Overwrites.{is_same_key, is_listed, has_entry, missing_keys};
 ghost use Rattle.metadata.specs.Overwrites.{IsPutOver, TakesBack, AreDisplaced};
@@ -21,8 +22,10 @@ ghost use Rattle.metadata.specs.HiddenRuns.{is_serving_after};
 ghost use Rattle.metadata.specs.ServerTables.{AreServerKeys};
 
 use crate::key_runs::KeyRuns;
-use crate::key_set::{KeySet, is_next};
+use crate::key_set::{KeySet, next_key_is};
 use crate::order::{is_between, is_key_below};
+use crate::row::Row;
+use crate::server_table::ServerTable;
 use std::alloc::Global;
 use std::collections::BTreeMap;
 use std::collections::btree_map::{Iter, Range};
@@ -35,7 +38,7 @@ use system_keys::{Bytes, KEY_SERVERS_PREFIX, KeyRange, OutOfMemory, SERVER_TAG_P
 #[derive(Drop)]
 pub(crate) struct EntryMap {
     alloc: Global,
-    values: BTreeMap<Vec<u8>, Bytes>,
+    values: BTreeMap<Vec<u8>, Row>,
 }
 
 impl Model for EntryMap {
@@ -69,12 +72,12 @@ impl EntryMap {
     pub(crate) fn get<'a>(&'a self, key: &[u8]) -> Option<&'a [u8]>
         ensures { option_map (λ value. value.now) result ≡ entry_value self.now key.now }
     {
-        let value = self.values.get(key)?;
-        Some(value.as_slice())
+        let row = self.values.get(key)?;
+        Some(row.value())
     }
 
     /// The entries in the order of their keys. Does not allocate.
-    pub(crate) fn iter(&self) -> Iter<'_, Vec<u8>, Bytes>
+    pub(crate) fn iter(&self) -> Iter<'_, Vec<u8>, Row>
         ensures entries { entries_of result ≡ self.now }
         ensures order { IsInOrder self.now }
     {
@@ -112,8 +115,33 @@ impl EntryMap {
         ensures order { IsInOrder self.new }
         ensures err { OnErr result (self.new ≡ self.old) }
     {
-        self.values.insert(key, value)?;
+        self.values.insert(key, Row::unread(value))?;
         Ok(())
+    }
+
+    /// Puts the row at the key, and reads its value if it is that of a keyServers entry; its servers
+    /// are looked for in the table. Fails only with `OutOfMemory`; the map is then unchanged.
+    fn put_row(&mut self, key: Vec<u8>, row: Row, servers: &ServerTable) -> Result<(), OutOfMemory>
+        ensures ok { OnOk result
+            (self.new ≡ insert_entry (slice_cmp nat_cmp) self.old key.items row) }
+        ensures order { IsInOrder self.new }
+        ensures err { OnErr result (self.new ≡ self.old) }
+    {
+        let row = self.row_to_put(&key, row, servers)?;
+        self.values.insert(key, row)?;
+        Ok(())
+    }
+
+    /// The row, with its value read if the key is that of a keyServers entry. Fails only with
+    /// `OutOfMemory`.
+    fn row_to_put(&self, key: &Vec<u8>, row: Row, servers: &ServerTable) -> Result<Row, OutOfMemory>
+        ensures { IfOk result (λ put. put ≡ row) }
+    {
+        if key.as_slice().starts_with(KEY_SERVERS_PREFIX) {
+            row.read(self.alloc, servers)
+        } else {
+            Ok(row)
+        }
     }
 
     /// Removes the entries of the range. Fails only with `OutOfMemory`, where their keys cannot be
@@ -252,19 +280,23 @@ impl EntryMap {
         self.values.remove(key);
     }
 
-    /// Puts all entries of the other map, and returns what takes them back. Fails only with
-    /// `OutOfMemory`; the map is then unchanged.
+    /// Puts all entries of the other map, and returns what takes them back. The servers of keyServers
+    /// entries are looked for in the table. Fails only with `OutOfMemory`; the map is then unchanged.
     ///
     /// What takes the entries back is made first. It also takes back those that were put before an
     /// allocation fails.
-    pub(crate) fn put_all(&mut self, puts: EntryMap) -> Result<Undo, OutOfMemory>
+    pub(crate) fn put_all(
+        &mut self,
+        puts: EntryMap,
+        servers: &ServerTable,
+    ) -> Result<Undo, OutOfMemory>
         ensures ok { OnOk result (IsPutOver puts self.old self.new) }
         ensures undo { IfOk result (λ undo. TakesBack undo.0 undo.1 self.old self.new) }
         ensures order { IsInOrder self.new }
         ensures err { OnErr result (self.new ≡ self.old) }
     {
-        let undo = self.undo_of(&puts)?;
-        match self.put_each(puts) {
+        let undo = self.undo_of_puts(&puts)?;
+        match self.put_each(puts, servers) {
             Ok(()) => Ok(undo),
             Err(OutOfMemory) => {
                 self.take_back(undo);
@@ -275,7 +307,7 @@ impl EntryMap {
 
     /// The keys of the other map that this one lacks, and the entries at its other keys. Fails only
     /// with `OutOfMemory`.
-    fn undo_of(&self, puts: &EntryMap) -> Result<Undo, OutOfMemory>
+    fn undo_of_puts(&self, puts: &EntryMap) -> Result<Undo, OutOfMemory>
         ensures missing { IfOk result (λ undo. undo.0 ≡ missing_keys self.now puts.now) }
         ensures displaced { IfOk result (λ undo. AreDisplaced self.now puts.now undo.1) }
         ensures order { IsInOrder self.now }
@@ -303,7 +335,7 @@ impl EntryMap {
 
     /// Puts the entries of the other map, from the last to the first: each key is then compared with
     /// few of those that are put. Fails only with `OutOfMemory`; some of them are then put.
-    fn put_each(&mut self, puts: EntryMap) -> Result<(), OutOfMemory>
+    fn put_each(&mut self, puts: EntryMap, servers: &ServerTable) -> Result<(), OutOfMemory>
         ensures ok { OnOk result (IsPutOver puts self.old self.new) }
         ensures others { (key : Key) → has_entry puts key ≡ false
             → entry_value self.new key ≡ entry_value self.old key }
@@ -312,23 +344,20 @@ impl EntryMap {
         ensures order { IsInOrder self.old → IsInOrder self.new }
     {
         let mut rest = puts.values.into_iter();
-        while let Some((key, value)) = rest.next_back() {
-            self.put_owned(key, value)?;
+        while let Some((key, row)) = rest.next_back() {
+            self.put_row(key, row, servers)?;
         }
         Ok(())
     }
 
-    /// Takes back entries that were put, and returns the keys at which there was none. Does not
-    /// allocate.
-    pub(crate) fn take_back(&mut self, undo: Undo) -> Vec<Vec<u8>>
-        ensures old { (old : Entries) → IsInOrder old → TakesBack undo.0 undo.1 old self.old
+    /// Takes back entries that were put. Does not allocate.
+    pub(crate) fn take_back(&mut self, undo: Undo)
+        ensures { (old : Entries) → IsInOrder old → TakesBack undo.0 undo.1 old self.old
             → self.new ≡ old }
-        ensures missing { bytes_of_keys result.items ≡ undo.0 }
     {
         let Undo { missing, displaced } = undo;
         self.remove_listed(&missing, &EntryMap::new(self.alloc));
         self.overwrite_all(displaced);
-        missing
     }
 
     /// The set without the keys at which the map has an entry. Takes a look-up in the set for each entry.
@@ -351,18 +380,56 @@ impl EntryMap {
             ≡ option_or (entry_value puts key) (entry_value self.old key) }
         ensures order { IsInOrder self.old → IsInOrder self.new }
     {
-        for (key, value) in puts.values {
-            self.overwrite(key, value);
+        for (key, row) in puts.values {
+            self.overwrite(key, row);
         }
     }
 
-    /// Puts the value at the key, if the map has an entry there. Does not allocate.
-    fn overwrite(&mut self, key: Vec<u8>, value: Bytes)
+    /// Puts the row at the key, if the map has an entry there. Does not allocate.
+    fn overwrite(&mut self, key: Vec<u8>, row: Row)
         ensures value { has_entry self.old key.items ≡ true
-            → self.new ≡ insert_entry (slice_cmp nat_cmp) self.old key.items value }
+            → self.new ≡ insert_entry (slice_cmp nat_cmp) self.old key.items row }
         ensures order { IsInOrder self.new }
     {
-        let _ = self.values.insert(key, value);
+        let _ = self.values.insert(key, row);
+    }
+
+    /// The value of the keyServers entry at this place, in the order of keys and counted from 0. Does
+    /// not allocate; takes a step for each entry before.
+    pub(crate) fn key_servers_row(&self, place: usize) -> Option<&Row>
+        ensures { option_map (λ row. row.now) result
+            ≡ option_map (λ entry. entry.1) (slice_get (key_servers_entries self.now) place) }
+    {
+        let mut before = place;
+        for (key, row) in self.iter() {
+            if key.as_slice().starts_with(KEY_SERVERS_PREFIX) {
+                if before == 0 {
+                    return Some(row);
+                }
+                before -= 1;
+            }
+        }
+        None
+    }
+
+    /// The last keyServers entry at or before the key, which stands without their prefix. Fails only with
+    /// `OutOfMemory`.
+    pub(crate) fn last_serving<'a>(
+        &'a self,
+        key: &[u8],
+    ) -> Result<Option<(&'a Vec<u8>, &'a Row)>, OutOfMemory>
+        ensures found { IfOk result (λ found. option_map lent_entry found
+            ≡ last_or None (filter (is_serving_up_to key.now) self.now)) }
+        ensures order { IsInOrder self.now }
+    {
+        let greatest = key_servers_key(self.alloc, key)?;
+        let Some((found, row)) = self.values.range(..=&greatest).next_back() else {
+            return Ok(None);
+        };
+        if !found.as_slice().starts_with(KEY_SERVERS_PREFIX) {
+            return Ok(None);
+        }
+        Ok(Some((found, row)))
     }
 
     /// The keyServers entries at or before the key, which stands without their prefix, in the order
@@ -370,7 +437,7 @@ impl EntryMap {
     pub(crate) fn serving_up_to<'a>(
         &'a self,
         key: &[u8],
-    ) -> Result<Range<'a, Vec<u8>, Bytes>, OutOfMemory>
+    ) -> Result<Range<'a, Vec<u8>, Row>, OutOfMemory>
         ensures found { IfOk result (λ found. entries_of found
             ≡ filter (is_serving_up_to key.now) self.now) }
         ensures order { IsInOrder self.now }
@@ -386,7 +453,7 @@ impl EntryMap {
     pub(crate) fn serving_before<'a>(
         &'a self,
         key: &Vec<u8>,
-    ) -> Result<Range<'a, Vec<u8>, Bytes>, OutOfMemory>
+    ) -> Result<Range<'a, Vec<u8>, Row>, OutOfMemory>
         requires { is_in key_servers_family key.now.items ≡ true }
         ensures { IfOk result (λ found. entries_of found
             ≡ filter (is_serving_before key.now.items) self.now) }
@@ -397,7 +464,7 @@ impl EntryMap {
     }
 
     /// The entries behind this key, in the order of their keys. Does not allocate.
-    pub(crate) fn behind<'a>(&'a self, key: &Vec<u8>) -> Range<'a, Vec<u8>, Bytes> {
+    pub(crate) fn behind<'a>(&'a self, key: &Vec<u8>) -> Range<'a, Vec<u8>, Row> {
         self.values.range((Bound::Excluded(key), Bound::Unbounded))
     }
 
@@ -424,10 +491,10 @@ impl EntryMap {
         if !begins || is_key_below(last.as_slice(), first.as_slice()) {
             return false;
         }
-        let mut listed = hidden.from_key(first);
+        let mut listed = hidden.keys_at_or_after(first);
         let bounds = (Bound::Included(first), Bound::Included(last));
         for (key, _) in self.values.range(bounds) {
-            if !is_next(&mut listed, key.as_slice()) {
+            if !next_key_is(&mut listed, key.as_slice()) {
                 return false;
             }
         }
@@ -439,7 +506,7 @@ impl EntryMap {
     pub(crate) fn serving_inside<'a>(
         &'a self,
         range: &KeyRange,
-    ) -> Result<Range<'a, Vec<u8>, Bytes>, OutOfMemory>
+    ) -> Result<Range<'a, Vec<u8>, Row>, OutOfMemory>
         ensures found { IfOk result (λ found. entries_of found
             ≡ filter (is_serving_inside range.now) self.now) }
         ensures order { IsInOrder self.now }
@@ -457,7 +524,7 @@ impl EntryMap {
         &'a self,
         key: &Vec<u8>,
         range: &KeyRange,
-    ) -> Result<Range<'a, Vec<u8>, Bytes>, OutOfMemory>
+    ) -> Result<Range<'a, Vec<u8>, Row>, OutOfMemory>
         requires { is_key_below key.now.items (key_servers_family.prefix ++ range.now.begin)
             ≡ false }
         ensures { IfOk result (λ found. entries_of found

@@ -4,7 +4,7 @@ ghost use Rattle.std.specs.Prelude.{◌≡◌, IfOk, option_map};
 ghost use Rattle.std.specs.Option.{option_to_list};
 ghost use Rattle.model.specs.Metadata.{IsInOrder, entry_value, serving_entry};
 ghost use Rattle.model.specs.Metadata.{key_servers_entries, server_tags};
-ghost use Rattle.metadata.specs.CachedTags.{AreNames, HaveRows, names_at, names_by, tags_by};
+ghost use Rattle.metadata.specs.CachedTags.{tags_by};
 ghost use Rattle.metadata.specs.HiddenRuns.{AreHiddenRuns};
 ghost use Rattle.metadata.specs.Overwrites.{entries_without};
 ghost use Rattle.metadata.specs.ServerTables.{GiveTags};
@@ -12,10 +12,9 @@ ghost use Rattle.metadata.specs.ServerTables.{GiveTags};
 use crate::entry_map::EntryMap;
 use crate::key_runs::KeyRuns;
 use crate::key_set::KeySet;
-use crate::row_names::RowNames;
+use crate::row::Row;
+use crate::row_tags::RowTags;
 use crate::server_table::ServerTable;
-use crate::tag_map::TagMap;
-use crate::value_tags::RowTags;
 use std::alloc::Global;
 use std::marker::Model;
 use system_keys::{OutOfMemory, ServerId, Tag};
@@ -25,7 +24,6 @@ use system_keys::{OutOfMemory, ServerId, Tag};
 #[derive(Drop)]
 pub struct EntryView<'a> {
     pub(crate) entries: &'a EntryMap,
-    pub(crate) tags: &'a TagMap,
     pub(crate) hidden: &'a KeySet,
     /// Runs of hidden keyServers entries; not each hidden one has to be in one.
     pub(crate) runs: &'a KeyRuns,
@@ -34,8 +32,7 @@ pub struct EntryView<'a> {
 }
 
 impl<'a> Model for EntryView<'a> {
-    ghost use Rattle.model.specs.Metadata.{Entries, IsInOrder, entry_value};
-    ghost use Rattle.metadata.specs.CachedTags.{AreNames, HaveRows, names_at};
+    ghost use Rattle.model.specs.Metadata.{Entries, IsInOrder};
     ghost use Rattle.metadata.specs.HiddenRuns.{AreHiddenRuns};
     ghost use Rattle.metadata.specs.Overwrites.{entries_without};
     ghost use Rattle.metadata.specs.ServerTables.{GiveTags};
@@ -44,30 +41,25 @@ impl<'a> Model for EntryView<'a> {
 
     ghost view = { λ v. entries_without v.hidden.now v.entries.now };
 
-    ghost invariant = { λ v. AreNames (names_at v.tags.now) (entry_value (entries_without v.hidden.now v.entries.now)) × AreHiddenRuns v.hidden.now v.entries.now v.runs.now × GiveTags v.servers.now.tags (entries_without v.hidden.now v.entries.now) × HaveRows (names_at v.tags.now) (entry_value v.entries.now) × IsInOrder v.entries.now };
+    ghost invariant = { λ v. AreHiddenRuns v.hidden.now v.entries.now v.runs.now × GiveTags v.servers.now.tags (entries_without v.hidden.now v.entries.now) × IsInOrder v.entries.now };
 }
 
 impl<'a> EntryView<'a> {
-    /// The entries of the map, except for those at hidden keys, with what is kept of them, with
-    /// runs of the hidden ones, and with the tags of the servers. Does not allocate.
+    /// The entries of the map, except for those at hidden keys, with runs of the hidden ones, and with
+    /// the tags of the servers. Does not allocate.
     pub(crate) fn new(
         entries: &'a EntryMap,
-        tags: &'a TagMap,
         hidden: &'a KeySet,
         runs: &'a KeyRuns,
         servers: &'a ServerTable,
     ) -> EntryView<'a>
-        requires tags { AreNames (names_at tags.now)
-            (entry_value (entries_without hidden.now entries.now)) }
         requires runs { AreHiddenRuns hidden.now entries.now runs.now }
         requires servers { GiveTags servers.now.tags (entries_without hidden.now entries.now) }
-        requires rows { HaveRows (names_at tags.now) (entry_value entries.now) }
         requires order { IsInOrder entries.now }
         ensures { result ≡ entries_without hidden.now entries.now }
     {
         EntryView {
             entries,
-            tags,
             hidden,
             runs,
             servers,
@@ -95,34 +87,37 @@ impl<'a> EntryView<'a> {
             ≡ option_map (λ entry. tags_by (entry_value self.now) entry.1)
             (serving_entry (key_servers_entries self.now) key.now)) }
     {
-        match self.serving_names(key)? {
-            Some(names) => Ok(Some(RowTags::new(names, self.servers))),
+        match self.serving_row(key)? {
+            Some(row) => Ok(Some(RowTags::new(row, self.servers))),
             None => Ok(None),
         }
     }
 
-    /// What the keyServers entry names that serves a key.
-    fn serving_names(&self, key: &[u8]) -> Result<Option<&'a RowNames>, OutOfMemory>
-        ensures { IfOk result (λ names. option_map (λ names. names.now) names
-            ≡ option_map (λ entry. names_by entry.1)
+    /// The value of the keyServers entry that serves a key. If the last entry up to the key is hidden,
+    /// the others are gone over.
+    fn serving_row(&self, key: &[u8]) -> Result<Option<&'a Row>, OutOfMemory>
+        ensures { IfOk result (λ row. option_map (λ row. row.now) row
+            ≡ option_map (λ entry. entry.1)
             (serving_entry (key_servers_entries self.now) key.now)) }
     {
-        if self.hidden.is_empty() {
-            return self.tags.serving(key);
+        let Some((found, row)) = self.entries.last_serving(key)? else {
+            return Ok(None);
+        };
+        if self.hidden.contains(found.as_slice()) {
+            return self.shown_row(key);
         }
-        self.shown_names(key)
+        Ok(Some(row))
     }
 
-    /// What the keyServers entry names that serves a key, found among the entries.
-    fn shown_names(&self, key: &[u8]) -> Result<Option<&'a RowNames>, OutOfMemory>
-        ensures { IfOk result (λ names. option_map (λ names. names.now) names
-            ≡ option_map (λ entry. names_by entry.1)
+    fn shown_row(&self, key: &[u8]) -> Result<Option<&'a Row>, OutOfMemory>
+        ensures { IfOk result (λ row. option_map (λ row. row.now) row
+            ≡ option_map (λ entry. entry.1)
             (serving_entry (key_servers_entries self.now) key.now)) }
     {
         let mut up_to = self.entries.serving_up_to(key)?;
-        while let Some((found, _)) = up_to.next_back() {
+        while let Some((found, row)) = up_to.next_back() {
             if !self.hidden.contains(found.as_slice()) {
-                return self.tags.at(found.as_slice());
+                return Ok(Some(row));
             }
             if let Some((first, _)) = self.runs.run_of(found) {
                 up_to = self.entries.serving_before(first)?;

@@ -5,7 +5,7 @@ ghost use Rattle.std.specs.Prelude.{Some, option_map, fold, not, if◌then◌els
 ghost use Rattle.std.specs.Option.{option_or};
 ghost use Rattle.system_keys.specs.declared.change.Change.TheVariants.{Set, Clear};
 ghost use Rattle.system_keys.specs.Keys.{Key};
-ghost use Rattle.system_keys.specs.Families.{is_kept, metadata_version_family};
+ghost use Rattle.system_keys.specs.Families.{is_kept_key, metadata_version_family};
 ghost use Rattle.model.specs.Metadata.{IsInOrder, AreKept, entry_value, is_locked, after_change};
 ghost use Rattle.model.specs.Metadata.{after_changes, is_applied, after_state, after_journal_row};
 ghost use Rattle.model.specs.Metadata.{Entries, is_filled};
@@ -13,19 +13,19 @@ ghost use Rattle.model.specs.Transactions.{locked_key};
 ghost use Rattle.metadata.specs.Overwrites.{IsOverwritten, IsPutOver, MayTakeBack, TakesBack};
 ghost use Rattle.metadata.specs.Overwrites.{entries_without, has_entry, is_listed, is_same_key};
 ghost use Rattle.metadata.specs.CachedTags.{IsBlanked, names_server};
-ghost use Rattle.metadata.specs.MapEntries.{bytes_of_keys};
 ghost use Rattle.metadata.specs.Started.{after_rows};
 
 use crate::applying::{cleared_keys, is_applied};
 use crate::entry_map::{EntryMap, Undo};
 use crate::key_set::KeySet;
+use crate::server_table::ServerTable;
 use crate::staged::Staged;
 use model::{JournalRow, StateTxn};
 use std::alloc::Global;
 use std::marker::Model;
 use system_keys::{
     Bytes, Change, Items, KeyRange, LOCKED_KEY, METADATA_VERSION_KEY, OutOfMemory,
-    SERVER_TAG_PREFIX, is_kept,
+    SERVER_TAG_PREFIX, SharedItems, is_kept_key,
 };
 
 /// The kept entries in the order of their keys: which storage servers have which keys, their tags,
@@ -63,7 +63,7 @@ impl KeptEntries {
     pub(crate) fn apply(&mut self, change: &Change) -> Result<(), OutOfMemory>
         ensures ok { OnOk result (self.new ≡ after_change self.old change.now) }
         ensures no_allocation { (key value : Key)
-            → change.now ≡ Set key value → is_kept key ≡ false → IsOk result }
+            → change.now ≡ Set key value → is_kept_key key ≡ false → IsOk result }
         ensures err { OnErr result (self.new ≡ self.old) }
     {
         match change {
@@ -75,10 +75,10 @@ impl KeptEntries {
     /// Puts the value at the key, if the key is kept.
     fn set(&mut self, key: &[u8], value: &Bytes) -> Result<(), OutOfMemory>
         ensures ok { OnOk result (self.new ≡ after_change self.old (Set key.now value.now)) }
-        ensures no_allocation { is_kept key.now ≡ false → IsOk result }
+        ensures no_allocation { is_kept_key key.now ≡ false → IsOk result }
         ensures err { OnErr result (self.new ≡ self.old) }
     {
-        if is_kept(key) {
+        if is_kept_key(key) {
             self.entries.put(key, value)?;
         }
         Ok(())
@@ -182,19 +182,19 @@ impl KeptEntries {
 
     /// Puts an empty value at each of the keys that is of a serverTag entry. Fails only with
     /// `OutOfMemory`; some of them are then put.
-    pub(crate) fn blank(&mut self, keys: &KeySet) -> Result<(), OutOfMemory>
+    pub(crate) fn blank_server_tags(&mut self, keys: &KeySet) -> Result<(), OutOfMemory>
         ensures { OnOk result (IsBlanked keys.now self.old self.new) }
     {
         let empty = Bytes::from(Vec::new(self.entries.alloc()));
         for key in keys.iter() {
-            self.blank_key(key.as_slice(), &empty)?;
+            self.blank_server_tag(key.as_slice(), &empty)?;
         }
         Ok(())
     }
 
-    fn blank_key(&mut self, key: &[u8], empty: &Bytes) -> Result<(), OutOfMemory>
+    fn blank_server_tag(&mut self, key: &[u8], empty: &Bytes) -> Result<(), OutOfMemory>
         ensures { OnOk result ((other : Key) → entry_value self.new other
-            ≡ (if (names_server other && is_kept other) && is_same_key other key.now
+            ≡ (if (names_server other && is_kept_key other) && is_same_key other key.now
             then Some empty.now else entry_value self.old other)) }
     {
         if key.starts_with(SERVER_TAG_PREFIX) {
@@ -204,28 +204,31 @@ impl KeptEntries {
         }
     }
 
-    /// Puts the entries over those of the metadata, and returns what takes them back. Fails only
-    /// with `OutOfMemory`; the metadata is then unchanged.
-    pub(crate) fn put_over(&mut self, puts: KeptEntries) -> Result<Undo, OutOfMemory>
+    /// Puts the entries over those of the metadata, and returns what takes them back. The servers of
+    /// keyServers entries are looked for in the table. Fails only with `OutOfMemory`; the metadata is
+    /// then unchanged.
+    pub(crate) fn put_over(
+        &mut self,
+        puts: KeptEntries,
+        servers: &ServerTable,
+    ) -> Result<Undo, OutOfMemory>
         ensures ok { OnOk result (IsPutOver puts self.old self.new) }
         ensures undo { IfOk result (λ undo. TakesBack undo.0 undo.1 self.old self.new) }
         ensures order { IsInOrder self.new }
         ensures kept { AreKept self.new }
         ensures err { OnErr result (self.new ≡ self.old) }
     {
-        let undo = self.entries.put_all(puts.entries)?;
+        let undo = self.entries.put_all(puts.entries, servers)?;
         Ok(undo)
     }
 
-    /// Takes back entries that were put, and returns the keys at which there was none. Does not
-    /// allocate.
-    pub(crate) fn take_back(&mut self, undo: Undo) -> Vec<Vec<u8>>
+    /// Takes back entries that were put. Does not allocate.
+    pub(crate) fn take_back(&mut self, undo: Undo)
         requires { MayTakeBack undo.0 undo.1 self.old }
-        ensures old { (old : Entries) → IsInOrder old → TakesBack undo.0 undo.1 old self.old
+        ensures { (old : Entries) → IsInOrder old → TakesBack undo.0 undo.1 old self.old
             → self.new ≡ old }
-        ensures missing { bytes_of_keys result.items ≡ undo.0 }
     {
-        self.entries.take_back(undo)
+        self.entries.take_back(undo);
     }
 
     /// Removes the entries at the keys of the set. Does not allocate.
@@ -247,8 +250,8 @@ impl KeptEntries {
         Ok(self)
     }
 
-    /// The same as `fold_rows` of rows that are given away: their keys and values are moved, and not
-    /// copied. Fails only with `OutOfMemory`; the metadata is then dropped.
+    /// The same as `fold_rows` of rows that are given away: keys and values that no copy of the rows
+    /// shares are moved, and not copied. Fails only with `OutOfMemory`; the metadata is then dropped.
     pub(crate) fn fold_own_rows(
         mut self,
         rows: Items<JournalRow>,
@@ -263,8 +266,8 @@ impl KeptEntries {
         Ok(self)
     }
 
-    /// Applies the transactions as `apply_states` does, and moves their keys and values. Fails only
-    /// with `OutOfMemory`; some of their changes are then applied.
+    /// Applies the transactions as `apply_states` does, and moves keys and values that no copy shares.
+    /// Fails only with `OutOfMemory`; some of their changes are then applied.
     pub(crate) fn apply_own_states(
         &mut self,
         locked: bool,
@@ -275,10 +278,21 @@ impl KeptEntries {
         let states = Vec::from(states);
         for transaction in states {
             if is_applied(locked, &transaction) {
-                self.apply_own_changes(transaction.mutations)?;
+                self.apply_shared_changes(transaction.mutations)?;
             }
         }
         Ok(())
+    }
+
+    /// Applies the changes, and moves their keys and values unless a copy of the list shares them.
+    /// Fails only with `OutOfMemory`; some of the changes are then applied.
+    fn apply_shared_changes(&mut self, changes: SharedItems<Change>) -> Result<(), OutOfMemory>
+        ensures { OnOk result (self.new ≡ after_changes self.old changes) }
+    {
+        match changes.try_into_items() {
+            Ok(own) => self.apply_own_changes(own),
+            Err(shared) => self.apply_changes(shared.as_slice()),
+        }
     }
 
     fn apply_own_changes(&mut self, changes: Items<Change>) -> Result<(), OutOfMemory>
@@ -304,7 +318,7 @@ impl KeptEntries {
     fn set_own(&mut self, key: Bytes, value: Bytes) -> Result<(), OutOfMemory>
         ensures { OnOk result (self.new ≡ after_change self.old (Set key value)) }
     {
-        if is_kept(key.as_slice()) {
+        if is_kept_key(key.as_slice()) {
             self.entries.put_owned(key.into_vec()?, value)?;
         }
         Ok(())

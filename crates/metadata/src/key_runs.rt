@@ -8,12 +8,13 @@ ghost use Rattle.metadata.specs.HiddenRuns.{runs_of};
 use crate::entry_map::EntryMap;
 use crate::key_set::KeySet;
 use crate::order::is_between;
+use crate::row::Row;
 use std::alloc::Global;
 use std::collections::BTreeMap;
 use std::collections::btree_map::{Iter, Range};
 use std::marker::Model;
 use std::ops::Bound;
-use system_keys::{Bytes, KEY_SERVERS_PREFIX, OutOfMemory};
+use system_keys::{KEY_SERVERS_PREFIX, OutOfMemory};
 
 /// Runs of keys. Contracts see the first and the last key of each.
 #[derive(Drop)]
@@ -58,7 +59,7 @@ impl KeyRuns {
         let mut open = None;
         for key in keys.iter() {
             if key.as_slice().starts_with(KEY_SERVERS_PREFIX) {
-                open = Some(self.run_up_to(entries, open, key)?);
+                open = Some(self.run_extended_to(entries, open, key)?);
             }
         }
         match open {
@@ -69,7 +70,7 @@ impl KeyRuns {
 
     /// The run that ends with the key: the one before goes on if the entry behind it has the key, and
     /// else it is added, and a run begins. Fails only with `OutOfMemory`; the runs are then unchanged.
-    fn run_up_to<'a>(
+    fn run_extended_to<'a>(
         &mut self,
         entries: &'a EntryMap,
         before: Option<OpenRun<'a>>,
@@ -78,7 +79,7 @@ impl KeyRuns {
         let Some(mut run) = before else {
             return Ok(OpenRun::new(entries, key));
         };
-        if run.goes_on_to(key) {
+        if run.extends_to(key) {
             return Ok(run);
         }
         self.add(run.first, run.last)?;
@@ -126,7 +127,7 @@ impl KeyRuns {
 struct OpenRun<'a> {
     first: &'a Vec<u8>,
     last: &'a Vec<u8>,
-    behind: Range<'a, Vec<u8>, Bytes>,
+    behind: Range<'a, Vec<u8>, Row>,
 }
 
 impl<'a> OpenRun<'a> {
@@ -140,7 +141,7 @@ impl<'a> OpenRun<'a> {
     }
 
     /// Whether the entry behind the run has the key; it is then the last of the run. Does not allocate.
-    fn goes_on_to(&mut self, key: &'a Vec<u8>) -> bool {
+    fn extends_to(&mut self, key: &'a Vec<u8>) -> bool {
         match self.behind.next() {
             Some((next, _)) if next.as_slice() == key.as_slice() => {
                 self.last = key;

@@ -1,4 +1,4 @@
-//! Sets of keys, such as those that are hidden.
+//! A set of keys in order.
 
 ghost use Rattle.std.specs.Prelude.{◌≡◌, ◌&&◌, ◌||◌, [], true, OnOk, length, not};
 ghost use Rattle.system_keys.specs.Keys.{Key};
@@ -7,7 +7,7 @@ ghost use Rattle.metadata.specs.Overwrites.{is_same_key, is_listed};
 
 use std::alloc::Global;
 use std::collections::BTreeSet;
-use std::collections::btree_set::{IntoIter, Iter, Range};
+use std::collections::btree_set::{Iter, Range};
 use std::marker::Model;
 use std::ops::Bound;
 use system_keys::OutOfMemory;
@@ -68,15 +68,8 @@ impl KeySet {
         self.keys.iter()
     }
 
-    /// The keys, which are given away. Does not allocate.
-    pub(crate) fn into_keys(self) -> IntoIter<Vec<u8>>
-        ensures { bytes_of_keys result ≡ self }
-    {
-        self.keys.into_iter()
-    }
-
     /// The keys from this one on. Does not allocate.
-    pub(crate) fn from_key(&self, key: &Vec<u8>) -> Range<'_, Vec<u8>>
+    pub(crate) fn keys_at_or_after(&self, key: &Vec<u8>) -> Range<'_, Vec<u8>>
         ensures { (other : Key) → is_listed (bytes_of_keys result) other ≡ true
             → is_listed self.now other ≡ true }
     {
@@ -121,7 +114,7 @@ impl KeySet {
 
 /// Whether the key is the next of these, which is passed over. Does not allocate.
 #[tactic(auto, using(crate::proofs::KeySets::listed_rest))]
-pub(crate) fn is_next(keys: &mut Range<'_, Vec<u8>>, key: &[u8]) -> bool
+pub(crate) fn next_key_is(keys: &mut Range<'_, Vec<u8>>, key: &[u8]) -> bool
     ensures found { result ≡ true → is_listed (bytes_of_keys keys.old) key.now ≡ true }
     ensures rest { (other : Key) → is_listed (bytes_of_keys keys.new) other ≡ true
         → is_listed (bytes_of_keys keys.old) other ≡ true }

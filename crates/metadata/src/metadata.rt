@@ -6,45 +6,40 @@ ghost use Rattle.std.specs.Prelude.{option_map, fold, slice_get};
 ghost use Rattle.std.specs.List.{list_any};
 ghost use Rattle.system_keys.specs.declared.change.Change.TheVariants.{Set, Clear};
 ghost use Rattle.system_keys.specs.Keys.{Key};
-ghost use Rattle.system_keys.specs.Families.{is_kept};
+ghost use Rattle.system_keys.specs.Families.{is_kept_key};
 ghost use Rattle.model.specs.Metadata.{IsInOrder, AreKept, entry_value, is_locked, after_change};
 ghost use Rattle.model.specs.Metadata.{is_applied, after_journal_row, key_servers_entries};
 ghost use Rattle.model.specs.Metadata.{Entries, routing, tags, tags_of_key};
 ghost use Rattle.model.specs.PrivateCopies.{private_copy};
-ghost use Rattle.metadata.specs.CachedTags.{NamesTakeBack, may_tag_some};
+ghost use Rattle.metadata.specs.CachedTags.{may_tag_some};
 ghost use Rattle.metadata.specs.Overwrites.{IsOverwritten, IsPutOver, TakesBack};
 ghost use Rattle.metadata.specs.Overwrites.{entries_without};
 ghost use Rattle.metadata.specs.HiddenRuns.{AreHiddenRuns};
 ghost use Rattle.metadata.specs.ServerTables.{ServersTakeBack};
 ghost use Rattle.metadata.specs.Started.{after_rows, IsStarted, HasStarted};
 
-use crate::applying::{any_applied, only_change};
+use crate::applying::{any_applied, only_applied_change};
 use crate::entry_view::EntryView;
 use crate::kept_entries::KeptEntries;
 use crate::key_runs::KeyRuns;
 use crate::key_set::KeySet;
-use crate::named_rows::named_rows;
-use crate::private_copies::private_of;
+use crate::private_copies::find_private_copy;
 use crate::routes::routes;
+use crate::row_tags::RowTags;
 use crate::server_table::ServerTable;
 use crate::staged::Staged;
-use crate::started::{Put, StartedRows};
-use crate::tag_map::TagMap;
+use crate::started_rows::{StartedRows, UndoPut};
 use crate::tagging::{tags_of, tags_of_key};
-use crate::value_tags::RowTags;
 use model::{JournalRow, PrivateCopy, Routing, Version};
 use std::alloc::Global;
 use std::marker::Model;
-use system_keys::{Bytes, Change, Items, KeyRange, OutOfMemory, Tag, is_kept};
+use system_keys::{Bytes, Change, Items, KeyRange, OutOfMemory, Tag, is_kept_key};
 
 /// The kept entries in the order of their keys: which storage servers have which keys, their tags,
-/// the lock, and the version of the metadata (release 7.1); and what each keyServers entry names, and
-/// the tag of each server, so that tags are gathered without reading values.
+/// the lock, and the version of the metadata (release 7.1); and the tag of each server.
 #[derive(Drop)]
 pub struct Metadata {
     entries: KeptEntries,
-    /// What each keyServers entry names, at its key, and nothing else.
-    tags: TagMap,
     /// The tag of each server that has a serverTag entry.
     servers: ServerTable,
     /// The empty set of hidden keys.
@@ -56,14 +51,13 @@ pub struct Metadata {
 impl Model for Metadata {
     ghost use Rattle.std.specs.Prelude.{◌≡◌, []};
     ghost use Rattle.model.specs.Metadata.{Entries, entry_value};
-    ghost use Rattle.metadata.specs.CachedTags.{AreNames, HaveRows, names_at};
     ghost use Rattle.metadata.specs.ServerTables.{AreServers};
 
     ghost Value = { Entries };
 
     ghost view = { λ m. m.entries };
 
-    ghost invariant = { λ m. AreNames (names_at m.tags) (entry_value m.entries) × (m.none ≡ []) × AreServers m.servers.tags (entry_value m.entries) × (m.no_runs ≡ []) × HaveRows (names_at m.tags) (entry_value m.entries) };
+    ghost invariant = { λ m. (m.none ≡ []) × AreServers m.servers.tags (entry_value m.entries) × (m.no_runs ≡ []) };
 }
 
 impl Metadata {
@@ -73,14 +67,13 @@ impl Metadata {
     {
         Metadata {
             entries: KeptEntries::new(alloc),
-            tags: TagMap::new(alloc),
             servers: ServerTable::new(alloc),
             none: KeySet::new(alloc),
             no_runs: KeyRuns::new(alloc),
         }
     }
 
-    /// The entries, with what each names and the table of the servers. Fails only with `OutOfMemory`.
+    /// The entries, with the table of the servers. Fails only with `OutOfMemory`.
     pub(crate) fn of(entries: KeptEntries) -> Result<Metadata, OutOfMemory>
         ensures { IfOk result (λ made. made ≡ entries) }
     {
@@ -88,11 +81,8 @@ impl Metadata {
         let alloc = map.alloc();
         let keys = map.server_tag_keys()?;
         let servers = ServerTable::of(&keys, map)?;
-        let rows = named_rows(map, &servers)?;
-        let tags = TagMap::of(alloc, rows)?;
         Ok(Metadata {
             entries,
-            tags,
             servers,
             none: KeySet::new(alloc),
             no_runs: KeyRuns::new(alloc),
@@ -107,7 +97,7 @@ impl Metadata {
     pub fn apply(&mut self, change: &Change) -> Result<(), OutOfMemory>
         ensures ok { OnOk result (self.new ≡ after_change self.old change.now) }
         ensures no_allocation { (key value : Key)
-            → change.now ≡ Set key value → is_kept key ≡ false → IsOk result }
+            → change.now ≡ Set key value → is_kept_key key ≡ false → IsOk result }
         ensures err { OnErr result (self.new ≡ self.old) }
     {
         match change {
@@ -119,10 +109,10 @@ impl Metadata {
     /// Puts the value at the key, if the key is kept.
     fn set(&mut self, key: &[u8], value: &Bytes) -> Result<(), OutOfMemory>
         ensures ok { OnOk result (self.new ≡ after_change self.old (Set key.now value.now)) }
-        ensures no_allocation { is_kept key.now ≡ false → IsOk result }
+        ensures no_allocation { is_kept_key key.now ≡ false → IsOk result }
         ensures err { OnErr result (self.new ≡ self.old) }
     {
-        if !is_kept(key) {
+        if !is_kept_key(key) {
             return Ok(());
         }
         let staged = self.entries.stage_set(key, value)?;
@@ -160,7 +150,7 @@ impl Metadata {
         if !any_applied(locked, states) {
             return Ok(());
         }
-        if let Some(change) = only_change(locked, states) {
+        if let Some(change) = only_applied_change(locked, states) {
             self.apply(change)?;
             return Ok(());
         }
@@ -186,7 +176,7 @@ impl Metadata {
         ensures err { OnErr result (self.new ≡ self.old) }
     {
         let started = self.start_without_runs(rows, last)?;
-        Ok(started.with_runs(self.entries.map()))
+        Ok(started.with_hidden_runs(self.entries.map()))
     }
 
     /// Starts to apply the rows as [`Metadata::start_rows`] does, for a caller that finishes them
@@ -220,7 +210,7 @@ impl Metadata {
     {
         let Staged { cleared, mut puts } = staged;
         let removed = puts.keys_lacked(cleared);
-        puts.blank(&removed)?;
+        puts.blank_server_tags(&removed)?;
         let put = self.put_over(puts)?;
         Ok(StartedRows {
             removed,
@@ -230,13 +220,11 @@ impl Metadata {
         })
     }
 
-    /// Puts the entries over those of the metadata, with what they name. Fails only with
-    /// `OutOfMemory`; the metadata is then unchanged.
-    fn put_over(&mut self, puts: KeptEntries) -> Result<Put, OutOfMemory>
+    /// Puts the entries over those of the metadata. Fails only with `OutOfMemory`; the metadata is
+    /// then unchanged.
+    fn put_over(&mut self, puts: KeptEntries) -> Result<UndoPut, OutOfMemory>
         ensures ok { OnOk result (IsPutOver puts self.old self.new) }
         ensures undo { IfOk result (λ put. TakesBack put.undo.0 put.undo.1 self.old self.new) }
-        ensures names { IfOk result (λ put.
-            NamesTakeBack put.names.items (entry_value self.old) (entry_value self.new)) }
         ensures servers { IfOk result (λ put.
             ServersTakeBack put.servers (entry_value self.old) (entry_value self.new)) }
         ensures was_in_order { OnOk result (IsInOrder self.old) }
@@ -248,21 +236,10 @@ impl Metadata {
         // (gives the proof that the entries are in order)
         let _others = self.entries.map();
         let servers = puts.map().server_tag_keys()?;
-        let named = named_rows(puts.map(), &self.servers)?;
-        let displaced = self.tags.displaced_tags(&named)?;
         self.servers.reserve(&servers)?;
-        let undo = self.entries.put_over(puts)?;
-        let Ok(()) = self.tags.put_each(named) else {
-            let added = self.entries.take_back(undo);
-            self.tags.take_back(added, displaced);
-            return Err(OutOfMemory);
-        };
+        let undo = self.entries.put_over(puts, &self.servers)?;
         self.servers.refresh(&servers, self.entries.map());
-        Ok(Put {
-            undo,
-            names: displaced,
-            servers,
-        })
+        Ok(UndoPut { undo, servers })
     }
 
     /// The entries of the metadata after the rows that were started. Does not allocate.
@@ -275,7 +252,7 @@ impl Metadata {
         }
         let runs = self.hidden_runs(started);
         let entries = self.entries.map();
-        EntryView::new(entries, &self.tags, &started.removed, runs, &self.servers)
+        EntryView::new(entries, &started.removed, runs, &self.servers)
     }
 
     /// The runs of the entries that the started rows remove, and none if the entries are no longer
@@ -300,7 +277,7 @@ impl Metadata {
         if self.entries.map().may_tag_some(&started.removed) {
             return;
         }
-        self.remove_all(started.removed);
+        self.remove_all(&started.removed);
     }
 
     /// Takes back what the rows that were started put: the metadata is then that before them. Does
@@ -310,25 +287,19 @@ impl Metadata {
         ensures { (before after : Entries)
             → IsStarted started before after self.old → self.new ≡ before }
     {
-        let Put {
-            undo,
-            names,
-            servers,
-        } = started.put;
-        let missing = self.entries.take_back(undo);
-        self.tags.take_back(missing, names);
+        let UndoPut { undo, servers } = started.put;
+        self.entries.take_back(undo);
         self.servers.refresh(&servers, self.entries.map());
     }
 
     /// Removes the entries at the keys of the set, if none of them gives a server a tag. Does not
     /// allocate.
-    fn remove_all(&mut self, keys: KeySet)
-        requires { may_tag_some self.old keys ≡ false }
-        ensures { self.new ≡ entries_without keys self.old }
+    fn remove_all(&mut self, keys: &KeySet)
+        requires { may_tag_some self.old keys.now ≡ false }
+        ensures { self.new ≡ entries_without keys.now self.old }
     {
-        self.entries.remove_all(&keys);
-        self.servers.refresh(&keys, self.entries.map());
-        self.tags.remove_all(keys);
+        self.entries.remove_all(keys);
+        self.servers.refresh(keys, self.entries.map());
     }
 
     /// All entries. Does not allocate.
@@ -336,13 +307,7 @@ impl Metadata {
         ensures { result ≡ self.now }
     {
         let entries = self.entries.map();
-        EntryView::new(
-            entries,
-            &self.tags,
-            &self.none,
-            &self.no_runs,
-            &self.servers,
-        )
+        EntryView::new(entries, &self.none, &self.no_runs, &self.servers)
     }
 
     /// The metadata after the rows of the journal, applied in order without copying the metadata.
@@ -354,8 +319,8 @@ impl Metadata {
         Metadata::of(self.entries.fold_rows(rows)?)
     }
 
-    /// The same as [`Metadata::fold_rows`] of rows that are given away: their keys and values are
-    /// moved into the metadata, and not copied.
+    /// The same as [`Metadata::fold_rows`] of rows that are given away: keys and values that no copy
+    /// of the rows shares are moved into the metadata, and not copied.
     ///
     /// Fails only with `OutOfMemory`; the metadata is then dropped.
     pub fn fold_own_rows(self, rows: Items<JournalRow>) -> Result<Metadata, OutOfMemory>
@@ -413,7 +378,7 @@ impl Metadata {
         ensures value { IfOk result (λ found. found ≡ private_copy self.now change.now) }
         ensures no_allocation { private_copy self.now change.now ≡ None → IsOk result }
     {
-        private_of(&self.whole(), change)
+        find_private_copy(&self.whole(), change)
     }
 
     /// The routing of the whole key space at this version: the lock, the version of the metadata,
@@ -427,7 +392,7 @@ impl Metadata {
             version,
             locked: self.is_locked(),
             metadata_version: self.entries.metadata_version()?,
-            routes: routes(self.entries.map(), &self.tags, &self.servers)?,
+            routes: routes(self.entries.map(), &self.servers)?,
         })
     }
 
@@ -438,10 +403,8 @@ impl Metadata {
         ensures { result ≡ option_map (λ entry. tags_of_key self.now entry.0)
             (slice_get (key_servers_entries self.now) place) }
     {
-        // (gives the proof that the entries are in order)
-        let _entries = self.entries.map();
-        let names = self.tags.at_place(place)?;
-        Some(RowTags::new(names, &self.servers))
+        let row = self.entries.map().key_servers_row(place)?;
+        Some(RowTags::new(row, &self.servers))
     }
 
     /// Returns a deep copy. Fails only with `OutOfMemory`.

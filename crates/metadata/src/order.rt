@@ -1,4 +1,4 @@
-//! The order of keys.
+//! Comparing keys.
 
 ghost use Rattle.std.specs.Prelude.{◌≡◌, ◌&&◌, not};
 ghost use Rattle.system_keys.specs.Keys.{is_key_below};

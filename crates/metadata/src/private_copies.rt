@@ -1,4 +1,4 @@
-//! The private copy of a change, for the storage server that it concerns.
+//! The private copy of a Set of a serverKeys or serverTag row, for the server that it concerns.
 
 ghost use Rattle.std.specs.Prelude.{◌≡◌, ◌∷◌, IfOk, IsOk, None};
 ghost use Rattle.std.specs.Option.{option_to_list};
@@ -18,7 +18,10 @@ use system_keys::{
 /// The private copy of a change, as [`crate::Metadata::private_of`] says. Fails only with
 /// `OutOfMemory`, and not if there is none.
 #[tactic(auto, unfolding(model::specs::PrivateCopies::private_copy))]
-pub fn private_of(entries: &EntryView, change: &Change) -> Result<Option<PrivateCopy>, OutOfMemory>
+pub fn find_private_copy(
+    entries: &EntryView,
+    change: &Change,
+) -> Result<Option<PrivateCopy>, OutOfMemory>
     ensures value { IfOk result (λ found. found ≡ private_copy entries.now change.now) }
     ensures no_allocation { private_copy entries.now change.now ≡ None → IsOk result }
 {

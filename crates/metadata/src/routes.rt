@@ -1,42 +1,28 @@
-//! The routes of the key space.
+//! The routing: for each keyServers entry its key and its tags.
 
-ghost use Rattle.std.specs.Prelude.{◌≡◌, ◌++◌, [], ◌∷◌, Some, IfOk, OnOk, map};
+ghost use Rattle.std.specs.Prelude.{◌≡◌, ◌++◌, [], ◌∷◌, IfOk, OnOk, map};
 ghost use Rattle.model.specs.Metadata.{entry_value, route_of, key_servers_entries};
-ghost use Rattle.metadata.specs.CachedTags.{AreNames, names_at};
 ghost use Rattle.metadata.specs.OwnRoutes.{own_routes};
 ghost use Rattle.metadata.specs.ServerTables.{AreServers};
 
 use crate::entry_map::EntryMap;
+use crate::row::Row;
+use crate::row_tags::RowTags;
 use crate::server_table::ServerTable;
-use crate::tag_map::{TagMap, TagSteps};
-use crate::value_tags::RowTags;
 use model::Route;
 use std::alloc::Global;
 use system_keys::{Bytes, Items, KEY_SERVERS_PREFIX, OutOfMemory, Tag};
 
 /// A route for each keyServers entry, in the order of keys (this project's profile), with the tags
 /// of the servers that it names, or those that it lists. Fails only with `OutOfMemory`.
-pub(crate) fn routes(
-    entries: &EntryMap,
-    tags: &TagMap,
-    servers: &ServerTable,
-) -> Result<Items<Route>, OutOfMemory>
-    requires names { AreNames (names_at tags.now) (entry_value entries.now) }
-    requires servers { AreServers servers.now.tags (entry_value entries.now) }
+pub(crate) fn routes(entries: &EntryMap, servers: &ServerTable) -> Result<Items<Route>, OutOfMemory>
+    requires { AreServers servers.now.tags (entry_value entries.now) }
     ensures { IfOk result (λ routes. routes
         ≡ map (route_of entries.now) (key_servers_entries entries.now)) }
 {
     let mut routes = Vec::new(entries.alloc());
-    let mut kept = TagSteps::new(tags);
-    for (key, value) in entries.iter() {
-        add_route(
-            entries,
-            servers,
-            &mut kept,
-            key,
-            value.as_slice(),
-            &mut routes,
-        )?;
+    for (key, row) in entries.iter() {
+        add_route(entries, servers, key, row, &mut routes)?;
     }
     Ok(Items::from(routes))
 }
@@ -45,24 +31,17 @@ pub(crate) fn routes(
 fn add_route(
     entries: &EntryMap,
     servers: &ServerTable,
-    rows: &mut TagSteps<'_>,
     key: &Vec<u8>,
-    value: &[u8],
+    row: &Row,
     routes: &mut Vec<Route>,
 ) -> Result<(), OutOfMemory>
-    requires are { AreNames (names_at rows.old) (entry_value entries.now) }
-    requires servers { AreServers servers.now.tags (entry_value entries.now) }
-    requires there { entry_value entries.now key.now.items ≡ Some value.now }
-    ensures kept { rows.new ≡ rows.old }
-    ensures routes { OnOk result (routes.new.items
-        ≡ routes.old.items ++ own_routes entries.now ((key.now.items, value.now) ∷ [])) }
+    requires { AreServers servers.now.tags (entry_value entries.now) }
+    ensures { OnOk result (routes.new.items
+        ≡ routes.old.items ++ own_routes entries.now ((key.now.items, row.now) ∷ [])) }
 {
-    if !key.as_slice().starts_with(KEY_SERVERS_PREFIX) {
-        return Ok(());
-    }
-    if let Some(names) = rows.at(key.as_slice())? {
+    if key.as_slice().starts_with(KEY_SERVERS_PREFIX) {
         let behind = &key.as_slice()[KEY_SERVERS_PREFIX.len()..];
-        let tags = RowTags::new(names, servers).list(entries.alloc())?;
+        let tags = RowTags::new(row, servers).list(entries.alloc())?;
         routes.push(new_route(entries.alloc(), behind, tags)?)?;
     }
     Ok(())

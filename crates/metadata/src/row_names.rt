@@ -1,4 +1,5 @@
-//! What the value of a keyServers row names: servers, or tags.
+//! What the value of a keyServers row names, servers or tags, with places in the table of
+//! servers.
 
 ghost use Rattle.std.specs.Prelude.{◌≡◌, IfOk, IsOk, Ok, Err};
 ghost use Rattle.system_keys.specs.declared.refusal.RowFault.{RowFault};
@@ -6,7 +7,7 @@ ghost use Rattle.system_keys.specs.Locations.{location_at};
 ghost use Rattle.metadata.specs.CachedTags.{names_by, names_of};
 
 use crate::server_table::ServerTable;
-use std::alloc::Global;
+use std::alloc::{AllocError, Global};
 use std::marker::Model;
 use system_keys::{Location, OutOfMemory, RowFault, ServerId, decode_location};
 
@@ -74,11 +75,12 @@ impl RowNames {
             destinations,
         }
     }
+}
 
-    /// Returns a copy. Fails only with `OutOfMemory`.
-    pub(crate) fn copy(&self) -> Result<RowNames, OutOfMemory>
-        ensures { IfOk result (λ copy. copy ≡ self.now) }
-    {
+impl Clone for RowNames {
+    ghost is_clone = { λ names copy. copy ≡ names };
+
+    fn clone(&self) -> Result<RowNames, AllocError> {
         Ok(RowNames {
             location: self.location.clone()?,
             sources: self.sources,

@@ -1,4 +1,4 @@
-//! The tags of the servers.
+//! The table of the servers that have a serverTag entry, each with its tag.
 
 ghost use Rattle.std.specs.Prelude.{◌≡◌, ◌+◌, ◌≤◌, ◌++◌, [], ◌∷◌, None, IsSome, IfSome, IfOk, OnOk};
 ghost use Rattle.std.specs.Prelude.{length};
@@ -110,7 +110,7 @@ impl ServerTable {
             self.old.tags self.new.tags }
         ensures room { self.old.room ≤ self.new.room + 1 }
     {
-        let Some(id) = server_of(key) else {
+        let Some(id) = server_of_tag_key(key) else {
             return;
         };
         match entries.get(key) {
@@ -125,7 +125,7 @@ impl ServerTable {
 }
 
 /// The server whose serverTag entry has the key.
-fn server_of(key: &[u8]) -> Option<[u8; 16]>
+fn server_of_tag_key(key: &[u8]) -> Option<[u8; 16]>
     ensures found { IfSome result (λ id. key.now ≡ server_tag_family.prefix ++ id) }
     ensures size { IfSome result (λ id. length id ≡ server_id_length) }
     ensures all { (id : Id) → length id ≡ server_id_length

@@ -1,4 +1,5 @@
-//! What rows of a journal are about to change.
+//! The keys that rows of a journal clear and the entries that they put, before the metadata is
+//! changed.
 
 ghost use Rattle.std.specs.Prelude.{◌≡◌, []};
 

@@ -1,4 +1,4 @@
-//! Tags in their order, as those of a keyServers value are gathered.
+//! Tags gathered in rising order, each once.
 
 ghost use Rattle.std.specs.Prelude.{◌≡◌, [], OnOk, fold};
 ghost use Rattle.std.specs.BTreeSet.{insert_key};

@@ -1,6 +1,6 @@
-//! The tags of a change: those of the keyServers entries that it touches.
+//! The tags of a change, of a key and of a range.
 
-ghost use Rattle.std.specs.Prelude.{◌≡◌, true, false, Some, IfOk, OnOk, filter, fold};
+ghost use Rattle.std.specs.Prelude.{◌≡◌, true, false, IfOk, OnOk, filter, fold};
 ghost use Rattle.std.specs.List.{flat_map};
 ghost use Rattle.std.specs.Option.{option_to_list};
 ghost use Rattle.std.specs.BTreeSet.{insert_key};
@@ -8,15 +8,11 @@ ghost use Rattle.system_keys.specs.declared.change.Change.TheVariants.{Clear};
 ghost use Rattle.model.specs.Metadata.{key_servers_entries, is_entry_inside, entry_tags};
 ghost use Rattle.model.specs.Metadata.{serving_entry, tags, tags_of_key};
 ghost use Rattle.system_keys.specs.ListedTags.{tag_cmp};
-ghost use Rattle.metadata.specs.CachedTags.{Names, names_at};
 ghost use Rattle.metadata.specs.Overwrites.{is_listed};
-ghost use Rattle.metadata.specs.ServerTables.{tags_named};
 
 use crate::entry_view::EntryView;
 use crate::key_set::KeySet;
-use crate::server_table::ServerTable;
-use crate::tag_map::TagSteps;
-use crate::value_tags::RowTags;
+use crate::row_tags::RowTags;
 use std::alloc::Global;
 use std::collections::BTreeSet;
 use system_keys::{Change, Items, KeyRange, OutOfMemory, Tag};
@@ -62,7 +58,7 @@ fn add_tags_of_key(
         (option_to_list (serving_entry (key_servers_entries entries.now) key.now)))) }
 {
     match entries.serving_tags(key)? {
-        Some(list) => list.add_to(tags),
+        Some(list) => list.add_to(entries.alloc(), tags),
         None => Ok(()),
     }
 }
@@ -79,10 +75,10 @@ fn add_tags_inside(
         (flat_map (entry_tags entries.now)
         (filter (is_entry_inside range.now) (key_servers_entries entries.now)))) }
 {
-    let mut kept = TagSteps::new(entries.tags);
     let mut inside = entries.entries.serving_inside(range)?;
-    while let Some((key, _)) = inside.next() {
-        add_unless_hidden(entries.hidden, entries.servers, &mut kept, key, tags)?;
+    while let Some((key, row)) = inside.next() {
+        let row_tags = RowTags::new(row, entries.servers);
+        add_unless_hidden(entries.alloc(), entries.hidden, key, &row_tags, tags)?;
         if let Some((_, last)) = entries.runs.run_of(key) {
             inside = entries.entries.serving_after(last, range)?;
         }
@@ -90,31 +86,23 @@ fn add_tags_inside(
     Ok(())
 }
 
-/// Adds the tags of the row at a key, if it is not hidden. Fails only with `OutOfMemory`.
+/// Adds the tags of the row at a key, if the key is not hidden. Fails only with `OutOfMemory`.
 fn add_unless_hidden(
+    alloc: Global,
     hidden: &KeySet,
-    servers: &ServerTable,
-    kept: &mut TagSteps<'_>,
     key: &Vec<u8>,
+    row: &RowTags,
     tags: &mut BTreeSet<Tag>,
 ) -> Result<(), OutOfMemory>
-    ensures kept { kept.new ≡ kept.old }
     ensures hides { is_listed hidden.now key.now.items ≡ true
         → OnOk result (tags.new.keys ≡ tags.old.keys) }
-    ensures shows { (names : Names) → is_listed hidden.now key.now.items ≡ false
-        → names_at kept.old key.now.items ≡ Some names
-        → OnOk result (tags.new.keys
-        ≡ fold (insert_key tag_cmp) tags.old.keys (tags_named servers.now.tags names)) }
+    ensures shows { is_listed hidden.now key.now.items ≡ false
+        → OnOk result (tags.new.keys ≡ fold (insert_key tag_cmp) tags.old.keys row.now) }
 {
-    // (also at a hidden key, so that the next one is one step away)
-    let there = kept.at(key.as_slice())?;
     if hidden.contains(key.as_slice()) {
         return Ok(());
     }
-    match there {
-        Some(names) => RowTags::new(names, servers).add_to(tags),
-        None => Ok(()),
-    }
+    row.add_to(alloc, tags)
 }
 
 /// The tags of a set, in their order. Fails only with `OutOfMemory`.

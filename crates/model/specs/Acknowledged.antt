@@ -1,6 +1,6 @@
 -- The version that a proxy has acknowledged to a resolver, computed from requests alone. Release
 -- 7.1, `Resolver.actor.cpp`, resolveBatch. The definition is `acknowledged` of World.antt, over
--- records; `acknowledged_law` says that this one agrees with it.
+-- records; `acknowledged_version_law` says that this one agrees with it.
 use Rattle.std.specs.Prelude.{List, map}
 use Rattle.model.specs.Numbers.{Version, ProxyNumber}
 use Rattle.model.specs.Requests.{Request, requests_of_proxy}

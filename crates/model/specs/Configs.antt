@@ -35,8 +35,8 @@ pub record IsConfig (config : Config) : Type 0 where
   pub step : (1 ≤ config.step) × (config.step < version_limit)
 
 -- the number is from 1 up to the limit
-abbrev pub is_from_one : (limit n : ℕ) → Bool
-is_from_one limit n = nat_le 1 n && nat_le n limit
+abbrev pub is_from_one_to : (limit n : ℕ) → Bool
+is_from_one_to limit n = nat_le 1 n && nat_le n limit
 
 -- the greatest step: with it, the first version is already the greatest
 abbrev pub step_limit : ℕ
@@ -45,7 +45,7 @@ step_limit = version_limit - 1
 -- the test of `IsConfig`
 abbrev pub is_config : Config → Bool
 is_config config =
-    is_from_one proxies_limit config.proxies
-    && is_from_one resolvers_limit config.resolvers
-    && is_from_one window_limit config.window
-    && is_from_one step_limit config.step
+    is_from_one_to proxies_limit config.proxies
+    && is_from_one_to resolvers_limit config.resolvers
+    && is_from_one_to window_limit config.window
+    && is_from_one_to step_limit config.step

@@ -16,7 +16,7 @@ use Rattle.model.specs.declared.verdict.Verdict.TheVariants.{Conflict, TooOld, C
 use Rattle.model.specs.declared.journal.StateTxn.{StateTxn}
 use Rattle.model.specs.declared.journal.JournalRow.{JournalRow}
 use Rattle.model.specs.declared.outcome.Outcome.TheVariants as outcomes
-use Rattle.model.specs.Outcomes.{outcome_by}
+use Rattle.model.specs.Outcomes.{outcome_of_verdict}
 use Rattle.model.specs.declared.moves.Move.{Move}
 use Rattle.model.specs.Owners.{owners}
 use Rattle.model.specs.OwnerMaps.{DatesInOrder}
@@ -59,9 +59,9 @@ AnEmptyValueIsNoLock =
 -- under the lock only a transaction that the resolvers committed is Locked
 abbrev pub TheOutcomesUnderTheLock : Type 0
 TheOutcomesUnderTheLock =
-    (outcome_by Conflict true 20 0 ≡ outcomes.Conflict)
-    × (outcome_by TooOld true 20 0 ≡ outcomes.TooOld)
-    × (outcome_by Committed true 20 0 ≡ outcomes.Locked)
+    (outcome_of_verdict Conflict true 20 0 ≡ outcomes.Conflict)
+    × (outcome_of_verdict TooOld true 20 0 ≡ outcomes.TooOld)
+    × (outcome_of_verdict Committed true 20 0 ≡ outcomes.Locked)
 
 -- ---- tags
 

@@ -23,7 +23,7 @@ use Rattle.model.specs.Transactions.{StampedTransaction}
 use Rattle.model.specs.Records.{Record}
 use Rattle.model.specs.OwnerMaps.{OwnerMapView, StandsForMoves}
 use Rattle.model.specs.Shares.{share, asks, each_below}
-use Rattle.model.specs.Journal.{VerdictSource, verdict_at, journal_row, reply_row_of}
+use Rattle.model.specs.Journal.{VerdictSource, verdict_or_conflict, journal_row, reply_row_of}
 use Rattle.model.specs.Journal.{HaveVerdictCount}
 use Rattle.model.specs.World.{reply_with, finished_after}
 
@@ -51,7 +51,7 @@ unseen_of_reply (Some reply) = reply.unseen
 -- transaction n stands at the place of its part in the share of r.
 unfoldable pub replied_verdicts : Config → Record → Replies → VerdictSource
 replied_verdicts config rec replies r i n =
-    verdict_at (share config rec r) (verdicts_of_reply (reply_from replies r)) n
+    verdict_or_conflict (share config rec r) (verdicts_of_reply (reply_from replies r)) n
 
 -- of the resolvers of a cluster, those whose replies have not come, in increasing order
 abbrev pub unreplied : (resolvers : ℕ) → Replies → List ResolverNumber
@@ -101,13 +101,13 @@ AreRepliesBy config verdict_by before rec replies =
     × (length verdicts ≡ length (share config rec r))
     × ((n : TransactionNumber) (t : StampedTransaction) → slice_get rec.batch n ≡ Some t
     → IsTrue (asks config rec r t)
-    → verdict_at (share config rec r) verdicts n ≡ verdict_by r rec.row n)
+    → verdict_or_conflict (share config rec r) verdicts n ≡ verdict_by r rec.row n)
 
 -- ---- the rows that replies tell
 
 -- the content of a state transaction as resolver 0 replies it, and nothing if it has none
-abbrev pub content_of : UnseenState → Carried
-content_of state =
+abbrev pub copy_content : UnseenState → Carried
+copy_content state =
     unwrap_or state.carried (record { mutations = []; lock_aware = false })
 
 -- the verdict in state transaction j of a row, or Conflict if it is missing
@@ -126,8 +126,8 @@ abbrev pub state_by_replies :
     (resolvers : ℕ) → Replies → (k j : ℕ) → (of_0 : UnseenState) → StateTxn
 state_by_replies resolvers replies k j state =
     record {
-      mutations = (content_of state).mutations;
-      lock_aware = (content_of state).lock_aware;
+      mutations = (copy_content state).mutations;
+      lock_aware = (copy_content state).lock_aware;
       verdicts =
           map (λ (r : ResolverNumber). verdict_in_row (row_from replies k r) j)
           (each_below resolvers);
@@ -176,8 +176,8 @@ is_reply_to config rec r (Some reply) =
 
 -- Resolver 0 replies the content of each state transaction, and the others none. *Profile*: a reply
 -- with content that it should not have, or without content that it should have, disagrees.
-abbrev pub carries_as : (r : ResolverNumber) → UnseenState → Bool
-carries_as r state = if nat_eq r 0 then is_some state.carried else not (is_some state.carried)
+abbrev pub has_content_for : (r : ResolverNumber) → UnseenState → Bool
+has_content_for r state = if nat_eq r 0 then is_some state.carried else not (is_some state.carried)
 
 -- the row that resolver r replies is of this version, and has this number of state transactions
 abbrev pub row_fits : Version → (count : ℕ) (r : ResolverNumber) → Option UnseenRow → Bool
@@ -185,7 +185,7 @@ row_fits version count r None = false
 row_fits version count r (Some row) =
     nat_eq row.version version
     && nat_eq (length row.states) count
-    && list_all (carries_as r) row.states
+    && list_all (has_content_for r) row.states
 
 -- the version that should stand at place k of the unseen rows, after `version`
 abbrev pub version_at : (step : ℕ) (version : Version) (k : ℕ) → Version

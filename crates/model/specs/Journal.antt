@@ -1,7 +1,7 @@
 -- The verdicts of the resolvers on a history, the journal that they give, and what each resolver
 -- replies and remembers of it. Release 7.1, `Resolver.actor.cpp`, resolveBatch; what differs is
 -- marked *profile*. These are the definitions, over records. Requests.antt defines the replies and
--- the memory of a resolver over requests, which follow these by `request_law`. Within this module
+-- the memory of a resolver over requests, which follow these by `requests_tell_records_law`. Within this module
 -- `journal_row` is the definition, and `reply_row` follows it by `reply_rows_law`.
 use Rattle.std.specs.Prelude.{◌≡◌, ℕ, zero, suc, ◌<◌, min, List, [], ◌∷◌, take, map, filter, Bool}
 use Rattle.std.specs.Prelude.{nat_eq, nat_lt, IsTrue, if◌then◌else◌, slice_get, Option, Some, None}
@@ -53,11 +53,11 @@ history_verdicts config h r i n = history_verdict_in_row config h r i n (slice_g
 
 -- The verdict on the part with number n, in a list with one verdict for each part of a share. A
 -- missing verdict counts as Conflict.
-abbrev pub verdict_at : List Part → List Verdict → (n : TransactionNumber) → Verdict
-verdict_at [] verdicts n = Conflict
-verdict_at (part ∷ parts) [] n = Conflict
-verdict_at (part ∷ parts) (verdict ∷ verdicts) n =
-    if nat_eq part.number n then verdict else verdict_at parts verdicts n
+abbrev pub verdict_or_conflict : List Part → List Verdict → (n : TransactionNumber) → Verdict
+verdict_or_conflict [] verdicts n = Conflict
+verdict_or_conflict (part ∷ parts) [] n = Conflict
+verdict_or_conflict (part ∷ parts) (verdict ∷ verdicts) n =
+    if nat_eq part.number n then verdict else verdict_or_conflict parts verdicts n
 
 -- element i of a list of lists, or the empty list if there is no such element
 abbrev pub list_at : {X : Type 0} → List (List X) → (i : ℕ) → List X
@@ -71,7 +71,7 @@ abbrev pub cell_verdict_in_row :
     Config → (verdicts : List Verdict) → ResolverNumber → TransactionNumber → Option Record
     → Verdict
 cell_verdict_in_row config verdicts r n None = Conflict
-cell_verdict_in_row config verdicts r n (Some rec) = verdict_at (share config rec r) verdicts n
+cell_verdict_in_row config verdicts r n (Some rec) = verdict_or_conflict (share config rec r) verdicts n
 
 -- The verdicts of the resolvers by verdict cells. There is a column of cells for each resolver, a
 -- cell for each row, and in it a verdict for each part of the resolver's share. A verdict counts as
@@ -142,8 +142,8 @@ journal config verdict_by h = map (journal_row config verdict_by) h
 
 -- The content of a state transaction that resolver r gets and replies. Resolver 0 gets its state
 -- mutations and its lock-aware flag, and the others get nothing.
-abbrev pub carried_by : ResolverNumber → StampedTransaction → Option Carried
-carried_by r t =
+abbrev pub carried_to : ResolverNumber → StampedTransaction → Option Carried
+carried_to r t =
     let content : Carried =
     record { mutations = filter is_state t.changes; lock_aware = t.lock_aware } in
     if nat_eq r 0 then Some content else None
@@ -157,7 +157,7 @@ reply_states_from verdict_by r rec n [] = []
 reply_states_from verdict_by r rec n (t ∷ ts) =
     let rest = reply_states_from verdict_by r rec (suc n) ts in
     if is_state_transaction t
-    then record { verdict = verdict_by r rec.row n; carried = carried_by r t } ∷ rest
+    then record { verdict = verdict_by r rec.row n; carried = carried_to r t } ∷ rest
     else rest
 
 -- the row of a record as resolver r replies it

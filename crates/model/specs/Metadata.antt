@@ -20,7 +20,7 @@ use Rattle.system_keys.specs.declared.refusal.RowFault.{RowFault}
 use Rattle.system_keys.specs.declared.tag.Tag.{Tag}
 use Rattle.system_keys.specs.Keys.{Key, Range, is_key_below, is_key_up_to, holds}
 use Rattle.system_keys.specs.Families.{key_servers_family, server_tag_family}
-use Rattle.system_keys.specs.Families.{metadata_version_family, is_in, is_kept}
+use Rattle.system_keys.specs.Families.{metadata_version_family, is_in, is_kept_key}
 use Rattle.system_keys.specs.Rows.{Id, tag_at}
 use Rattle.system_keys.specs.ListedTags.{tag_cmp}
 use Rattle.system_keys.specs.Locations.{location_at}
@@ -48,7 +48,7 @@ IsInOrder entries = IsStrictlySortedBy (slice_cmp nat_cmp) (keys_of entries)
 
 -- each entry has a kept key
 abbrev pub AreKept : Entries → Type 0
-AreKept entries = (entry : Entry) → Contains entries entry → IsTrue (is_kept entry.0)
+AreKept entries = (entry : Entry) → Contains entries entry → IsTrue (is_kept_key entry.0)
 
 -- the value at a key, if the key has an entry
 abbrev pub entry_value : Entries → Key → Option (List ℕ)
@@ -68,7 +68,7 @@ is_locked entries = is_filled (entry_value entries locked_key)
 -- its range, and every other entry is unchanged.
 abbrev pub after_change : Entries → Change → Entries
 after_change entries (Set key value) =
-    if is_kept key then insert_entry (slice_cmp nat_cmp) entries key value else entries
+    if is_kept_key key then insert_entry (slice_cmp nat_cmp) entries key value else entries
 after_change entries (Clear range) =
     filter (λ (entry : Entry). not (holds range entry.0)) entries
 

@@ -1,6 +1,6 @@
 -- What a resolver answers to any request, computed from the requests that it has judged. Release
 -- 7.1, `Resolver.actor.cpp`, resolveBatch; what differs is marked *profile*. For the requests of a
--- history's records, `offer_law` says that these answers are those of a world, World.antt.
+-- history's records, `offer_answer_law` says that these answers are those of a world, World.antt.
 use Rattle.std.specs.Prelude.{◌≡◌, ℕ, ◌<◌, ◌≤◌, List, [], ◌∷◌, ◌++◌, map, filter, take, Bool, not}
 use Rattle.std.specs.Prelude.{◌&&◌, nat_eq, nat_lt, nat_le, if◌then◌else◌, slice_get}
 use Rattle.std.specs.Prelude.{slice_index, Option, Some, None, Result, Ok, Err}

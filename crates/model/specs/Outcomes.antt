@@ -27,10 +27,10 @@ is_refused locked t = not t.lock_aware && locked
 
 -- The outcome by the joined verdict. The lock may refuse what the resolvers committed.
 -- *Profile*: Locked is a separate outcome.
-abbrev pub outcome_by : Verdict → (refused : Bool) → Version → TransactionNumber → Outcome
-outcome_by verdicts.Conflict refused version number = Conflict
-outcome_by verdicts.TooOld refused version number = TooOld
-outcome_by verdicts.Committed refused version number =
+abbrev pub outcome_of_verdict : Verdict → (refused : Bool) → Version → TransactionNumber → Outcome
+outcome_of_verdict verdicts.Conflict refused version number = Conflict
+outcome_of_verdict verdicts.TooOld refused version number = TooOld
+outcome_of_verdict verdicts.Committed refused version number =
     if refused then Locked else Committed version number
 
 -- the outcome of transaction n of the record; `locked` is the lock in the metadata before the
@@ -39,7 +39,7 @@ unfoldable pub outcome :
     Config → VerdictSource → (locked : Bool) → Record → (n : TransactionNumber) → StampedTransaction
     → Outcome
 outcome config verdict_by locked rec n t =
-    outcome_by (joined_verdict config verdict_by rec n t) (is_refused locked t) rec.version n
+    outcome_of_verdict (joined_verdict config verdict_by rec n t) (is_refused locked t) rec.version n
 
 -- the outcomes of some transactions of the record, numbered from n
 abbrev pub outcomes_from :

@@ -2,8 +2,8 @@
 -- alone. Release 7.1: the request, `CommitProxyServer.actor.cpp`, ResolutionRequestBuilder; the
 -- rest, `Resolver.actor.cpp`, resolveBatch. What differs is marked *profile*. The definitions are
 -- those over records, in Records.antt, Verdicts.antt, Journal.antt and World.antt. For the requests
--- of a history's records, `request_law` says that these agree with them: the verdicts, the rows and
--- the reply, and with these the unseen rows, and the requests remembered. `requests_memory_law`
+-- of a history's records, `requests_tell_records_law` says that these agree with them: the verdicts, the rows and
+-- the reply, and with these the unseen rows, and the requests remembered. `enough_requests_remembered_law`
 -- says of any requests that those remembered are enough.
 use Rattle.std.specs.Prelude.{ℕ, suc, List, [], ◌∷◌, ◌++◌, map, filter, flat_map, nat_eq, nat_lt}
 use Rattle.std.specs.Prelude.{if◌then◌else◌}
@@ -19,7 +19,7 @@ use Rattle.model.specs.Transactions.{StampedTransaction, is_state_transaction}
 use Rattle.model.specs.Records.{Record, last_version_by, oldest}
 use Rattle.model.specs.Shares.{share_back_to, each_below}
 use Rattle.model.specs.Verdicts.{JudgedPart, judged_at, verdicts_after}
-use Rattle.model.specs.Journal.{carried_by, verdict_at, least}
+use Rattle.model.specs.Journal.{carried_to, verdict_or_conflict, least}
 
 -- ---- the request
 
@@ -30,7 +30,7 @@ abbrev pub marks_from :
 marks_from r n [] = []
 marks_from r n (t ∷ ts) =
     if is_state_transaction t
-    then record { number = n; carried = carried_by r t } ∷ marks_from r (suc n) ts
+    then record { number = n; carried = carried_to r t } ∷ marks_from r (suc n) ts
     else marks_from r (suc n) ts
 
 -- A request: the numbers of the record, the resolver's share, and the marks of the state
@@ -81,7 +81,7 @@ request_verdicts window before q =
 -- a marked state transaction, with the verdict on its part
 abbrev pub reply_state_of_mark : List Part → List Verdict → StateMark → UnseenState
 reply_state_of_mark parts verdicts mark =
-    record { verdict = verdict_at parts verdicts mark.number; carried = mark.carried }
+    record { verdict = verdict_or_conflict parts verdicts mark.number; carried = mark.carried }
 
 -- the row of a request as its resolver replies it, by the verdicts on the request
 unfoldable pub request_reply_row : Request → List Verdict → UnseenRow

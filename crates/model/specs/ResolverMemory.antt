@@ -66,20 +66,20 @@ pub record StandsForRequests (v : ResolverView) (judged : List Request) : Type 0
 
 -- what a resolver does with a request that it does not refuse: it gives a reply again, or it judges
 -- the request
-pub data Course : Type 0 where
-  GiveAgain : (reply : Reply) → Course
-  Judge : Course
+pub data Decision : Type 0 where
+  GiveAgain : (reply : Reply) → Decision
+  Judge : Decision
 
 -- it gives the reply that it keeps again, and refuses the request if it keeps none
 abbrev pub course_again :
-    (kept : Option Reply) (version acknowledged last : Version) → Result Course OfferFault
+    (kept : Option Reply) (version acknowledged last : Version) → Result Decision OfferFault
 course_again (Some reply) version acknowledged last = Ok (GiveAgain reply)
 course_again None version acknowledged last =
     if nat_le version acknowledged then Err (GivenUp acknowledged) else Err (OutsideChain last)
 
 -- what it does with a request of the proxy of which it keeps this
 abbrev pub course_of_proxy :
-    (last : Version) (q : Request) → Option ProxyMemory → Result Course OfferFault
+    (last : Version) (q : Request) → Option ProxyMemory → Result Decision OfferFault
 course_of_proxy last q None = Err NoSuchProxy
 course_of_proxy last q (Some one) =
     if not (is_in_order q) then Err (OutsideChain last)
@@ -90,7 +90,7 @@ course_of_proxy last q (Some one) =
     else Ok Judge
 
 -- what it does with any request, by what it keeps alone
-unfoldable pub course : ResolverView → Request → Result Course OfferFault
+unfoldable pub course : ResolverView → Request → Result Decision OfferFault
 course v q =
     if not (nat_eq q.resolver v.number) then Err WrongResolver
     else course_of_proxy v.version q (slice_get v.proxies q.proxy)

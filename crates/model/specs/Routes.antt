@@ -1,7 +1,7 @@
 -- Which keyServers row serves a key, and which tags a change has. Release 7.1,
 -- `CommitProxyServer.actor.cpp`, assignMutationsToStorageServers. Both are stated as predicates
--- here; `route_law` and `tags_law` say that `serving_entry` and `tags` of Metadata.antt agree with
--- them.
+-- here; `serving_entry_law` and `tags_of_change_law` say that `serving_entry` and `tags` of
+-- Metadata.antt agree with them.
 use Rattle.std.specs.Prelude.{◌⊎◌, Contains, IsTrue}
 use Rattle.system_keys.specs.declared.change.Change.{Change}
 use Rattle.system_keys.specs.declared.tag.Tag.{Tag}

@@ -31,9 +31,9 @@ big_endian zero x = []
 big_endian (suc n) x = big_endian n (x / 256) ++ x % 256 ∷ []
 
 -- the number of some bytes, the least significant first
-abbrev pub little_endian : List ℕ → ℕ
-little_endian [] = 0
-little_endian (b ∷ bytes) = b + 256 * little_endian bytes
+abbrev pub from_little_endian : List ℕ → ℕ
+from_little_endian [] = 0
+from_little_endian (b ∷ bytes) = b + 256 * from_little_endian bytes
 
 -- the versionstamp of a transaction: the version of its batch in eight bytes, and its number in the
 -- batch in two
@@ -51,7 +51,7 @@ text_of value = take (length value - 4) value
 
 -- the place of the versionstamp: the last four bytes, the least significant first
 abbrev pub offset_of : (value : List ℕ) → ℕ
-offset_of value = little_endian (drop (length value - 4) value)
+offset_of value = from_little_endian (drop (length value - 4) value)
 
 -- a value that awaits its versionstamp, with the versionstamp filled in
 abbrev pub stamped_value : Version → TransactionNumber → (value : List ℕ) → List ℕ

@@ -180,7 +180,7 @@ received_of p (rec ∷ rest) (n ∷ ns) =
 
 -- The version that proxy p has acknowledged to a resolver that judged this many rows: the greatest
 -- that it had received. This is the definition, over records; `acknowledged_requests`, over
--- requests, follows it by `acknowledged_law`.
+-- requests, follows it by `acknowledged_version_law`.
 abbrev pub acknowledged : World → (judged_count : ℕ) (p : ProxyNumber) → Version
 acknowledged w judged_count p =
     greatest (received_of p (take judged_count w.history) w.received)

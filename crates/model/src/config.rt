@@ -1,9 +1,9 @@
-//! The numbers that configure a cluster.
+//! The numbers that configure a cluster: proxies, resolvers, window and step.
 //!
 //! *Profile*: all of it. Release 7.1 sets these numbers by knobs and by its configuration.
 
 ghost use Rattle.std.specs.Prelude.{◌≡◌, MatchResult};
-ghost use Rattle.model.specs.Configs.{Config as Numbers, IsConfig, is_from_one};
+ghost use Rattle.model.specs.Configs.{Config as Numbers, IsConfig, is_from_one_to};
 ghost use Rattle.model.specs.declared.refusal.Refusal.TheVariants as refusals;
 
 use crate::refusal::Refusal;
@@ -77,10 +77,10 @@ impl Config {
             (λ config. IsConfig numbers × (config ≡ numbers))
             (λ refusal. (IsConfig numbers → ⊥) × (refusal ≡ refusals.BadConfig)) }
     {
-        if is_from_one(PROXIES_LIMIT, proxies as u64)
-            && is_from_one(RESOLVERS_LIMIT, resolvers as u64)
-            && is_from_one(WINDOW_LIMIT, window)
-            && is_from_one(STEP_LIMIT, step)
+        if is_from_one_to(PROXIES_LIMIT, proxies as u64)
+            && is_from_one_to(RESOLVERS_LIMIT, resolvers as u64)
+            && is_from_one_to(WINDOW_LIMIT, window)
+            && is_from_one_to(STEP_LIMIT, step)
         {
             Ok(Config {
                 proxies,
@@ -134,8 +134,8 @@ impl Config {
 }
 
 /// Returns whether the number is from 1 up to the limit.
-pub fn is_from_one(limit: u64, number: u64) -> bool
-    ensures { result ≡ is_from_one limit number }
+pub fn is_from_one_to(limit: u64, number: u64) -> bool
+    ensures { result ≡ is_from_one_to limit number }
 {
     1 <= number && number <= limit
 }

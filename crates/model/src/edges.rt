@@ -1,5 +1,5 @@
-//! Edge cases: small values for which a definition has exactly this value. No code: each contract
-//! is a list of edge cases.
+//! Edge cases of locks, tags, stamps, records, missing verdicts and refusals. No code: each
+//! contract is a list of edge cases.
 
 ghost use Rattle.model.specs.Edges.{TheOutcomesUnderTheLock, TheOwnersAfterAMove};
 ghost use Rattle.model.specs.Edges.{TheOldestVersionOfARecord, ARepeatGetsTheSameReply};
@@ -49,7 +49,7 @@ pub fn record_edges()
 {}
 
 /// Verdicts that are missing: in cells, in a history, and among those of a state transaction.
-pub fn missing_edges()
+pub fn missing_verdict_edges()
     ensures cells { CellsWithoutVerdicts }
     ensures history { AHistoryWithoutVerdicts }
     ensures told { TooFewVerdicts }

@@ -1,4 +1,5 @@
-//! Edge cases of what a proxy learns from replies. No code: each contract is a list of edge cases.
+//! Edge cases of replies: which have come, and which agree. No code: each contract is a list of
+//! edge cases.
 
 ghost use Rattle.model.specs.FinishingEdges.{TheRowsThatRepliesTell, TheVerdictsThatRepliesHave};
 ghost use Rattle.model.specs.FinishingEdges.{RepliesThatHaveNotCome, RepliesToAnotherRecord};

@@ -6,13 +6,13 @@ ghost use Rattle.std.specs.Prelude.{◌≡◌, IfOk};
 
 use crate::numbers::Version;
 use crate::verdict::Verdict;
-use system_keys::{Change, Items, OutOfMemory};
+use system_keys::{Change, Items, OutOfMemory, SharedItems};
 
 /// A state transaction of a journal.
 #[derive(Clone, Debug, Drop)]
 pub struct StateTxn {
-    /// Its state mutations, in order.
-    pub mutations: Items<Change>,
+    /// Its state mutations, in order. Copies share them.
+    pub mutations: SharedItems<Change>,
     /// Whether it may commit while the database is locked.
     pub lock_aware: bool,
     /// The verdict of each resolver, in the order of their numbers.
@@ -20,7 +20,7 @@ pub struct StateTxn {
 }
 
 impl StateTxn {
-    /// Returns a deep copy. Fails only with `OutOfMemory`.
+    /// Returns a copy, which shares the mutations. Fails only with `OutOfMemory`.
     pub fn copy(&self) -> Result<StateTxn, OutOfMemory>
         ensures { IfOk result (λ copy. copy ≡ self.now) }
     {
@@ -38,7 +38,7 @@ pub struct JournalRow {
 }
 
 impl JournalRow {
-    /// Returns a deep copy. Fails only with `OutOfMemory`.
+    /// Returns a copy, which shares the mutations. Fails only with `OutOfMemory`.
     pub fn copy(&self) -> Result<JournalRow, OutOfMemory>
         ensures { IfOk result (λ copy. copy ≡ self.now) }
     {

@@ -17,8 +17,10 @@ mod routing;
 mod unseen;
 mod verdict;
 
-pub use config::{Config, RESOLVERS_LIMIT, VERSION_LIMIT, is_from_one};
-pub use edges::{lock_edges, missing_edges, record_edges, refusal_edges, stamp_edges, tag_edges};
+pub use config::{Config, RESOLVERS_LIMIT, VERSION_LIMIT, is_from_one_to};
+pub use edges::{
+    lock_edges, missing_verdict_edges, record_edges, refusal_edges, stamp_edges, tag_edges,
+};
 pub use finish_edges::{disagreement_edges, other_record_edges, reply_edges};
 pub use journal::{JournalRow, StateTxn};
 pub use moves::Move;

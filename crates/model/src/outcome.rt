@@ -1,4 +1,5 @@
-//! The outcomes that a proxy returns to its clients, and the mutations that it sends to the logs.
+//! The outcome of a transaction, and a finished batch with its tagged mutations and private
+//! copies.
 //!
 //! Release 7.1, `CommitProxyServer.actor.cpp`, determineCommittedTransactions and
 //! assignMutationsToStorageServers, and `ApplyMetadataMutation.cpp`, for the private copies; what

@@ -7,7 +7,7 @@ ghost use Rattle.std.specs.Prelude.{◌≡◌, IfOk};
 use crate::numbers::{ProxyNumber, ResolverNumber, RowNumber, Version};
 use crate::unseen::UnseenRow;
 use crate::verdict::Verdict;
-use system_keys::{Items, OutOfMemory};
+use system_keys::{Items, OutOfMemory, SharedItems};
 
 /// The reply of one resolver to the request for one record.
 #[derive(Clone, Debug, Drop)]
@@ -22,12 +22,12 @@ pub struct Reply {
     pub version: Version,
     /// One verdict for each transaction of the share, in order.
     pub verdicts: Items<Verdict>,
-    /// The rows that the proxy has not seen, in the order of their versions.
-    pub unseen: Items<UnseenRow>,
+    /// The rows that the proxy has not seen, in the order of their versions. Copies share them.
+    pub unseen: SharedItems<UnseenRow>,
 }
 
 impl Reply {
-    /// Returns a deep copy. Fails only with `OutOfMemory`.
+    /// Returns a copy, which shares the unseen rows. Fails only with `OutOfMemory`.
     pub fn copy(&self) -> Result<Reply, OutOfMemory>
         ensures { IfOk result (λ copy. copy ≡ self.now) }
     {

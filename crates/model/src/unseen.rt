@@ -1,4 +1,5 @@
-//! The state transactions of other proxies, as a resolver replies them to a proxy.
+//! State transactions as a request carries them (`StateMark`) and as a reply tells them
+//! (`UnseenRow`).
 //!
 //! Release 7.1, `Resolver.actor.cpp`, resolveBatch; what differs is marked *profile*.
 
@@ -7,19 +8,19 @@ ghost use Rattle.std.specs.Prelude.{◌≡◌, IfOk};
 use crate::numbers::{TransactionNumber, Version};
 use crate::verdict::Verdict;
 use std::alloc::AllocError;
-use system_keys::{Change, Items, OutOfMemory};
+use system_keys::{Change, Items, OutOfMemory, SharedItems};
 
 /// The content of a state transaction. Only resolver 0 gets it and replies it.
 #[derive(Clone, Debug, Drop)]
 pub struct Carried {
-    /// Its state mutations, in order.
-    pub mutations: Items<Change>,
+    /// Its state mutations, in order. Copies share them.
+    pub mutations: SharedItems<Change>,
     /// Whether it may commit while the database is locked.
     pub lock_aware: bool,
 }
 
 impl Carried {
-    /// Returns a deep copy. Fails only with `OutOfMemory`.
+    /// Returns a copy, which shares the mutations. Fails only with `OutOfMemory`.
     pub fn copy(&self) -> Result<Carried, OutOfMemory>
         ensures { IfOk result (λ copy. copy ≡ self.now) }
     {
@@ -37,7 +38,7 @@ pub struct StateMark {
 }
 
 impl StateMark {
-    /// Returns a deep copy. Fails only with `OutOfMemory`.
+    /// Returns a copy, which shares the mutations. Fails only with `OutOfMemory`.
     pub fn copy(&self) -> Result<StateMark, OutOfMemory>
         ensures { IfOk result (λ copy. copy ≡ self.now) }
     {
@@ -55,7 +56,7 @@ pub struct UnseenState {
 }
 
 impl UnseenState {
-    /// Returns a deep copy. Fails only with `OutOfMemory`.
+    /// Returns a copy, which shares the mutations. Fails only with `OutOfMemory`.
     pub fn copy(&self) -> Result<UnseenState, OutOfMemory>
         ensures { IfOk result (λ copy. copy ≡ self.now) }
     {
@@ -74,7 +75,7 @@ pub struct UnseenRow {
 }
 
 impl UnseenRow {
-    /// Returns a deep copy. Fails only with `OutOfMemory`.
+    /// Returns a copy, which shares the mutations. Fails only with `OutOfMemory`.
     pub fn copy(&self) -> Result<UnseenRow, OutOfMemory>
         ensures { IfOk result (λ copy. copy ≡ self.now) }
     {

@@ -19,7 +19,7 @@ use Rattle.model.specs.Stamps.{Mutation, Set, Clear, SetStamped, AdmittedTransac
 use Rattle.model.specs.Transactions.{StampedTransaction}
 use Rattle.mutation.specs.declared.refusal.Refusal.{Refusal}
 use Rattle.mutation.specs.declared.refusal.Refusal.TheVariants as refusals
-use Rattle.mutation.specs.Faults.{first_fault, fault_of_range, fault_of_set, fault_of_stamp, fault_of_mutation, transaction_fault, faults_of, fault_of_change, stamped_fault, has_place, is_formed}
+use Rattle.mutation.specs.Faults.{first_fault, fault_of_range, fault_of_set, fault_of_stamp, fault_of_mutation, transaction_fault, faults_of, fault_of_change, stamped_fault, has_room_for_stamp, has_fixed_form}
 use Rattle.mutation.specs.Limits.{IsRange, IsRow, TakesStamp, IsMutation, EveryLimitHolds, IsChange, EveryLimitStillHolds}
 
 -- ---- the first of several faults
@@ -142,7 +142,7 @@ length-text_of value = grind (arith, length-take {A = ℕ})
 
 takes_stamp : (key : Key) (value : List ℕ) → fault_of_stamp key value ≡ None → TakesStamp key value
 takes_stamp key value h =
-    let tests = stamp_tests (is_formed (kind_of key)) (has_place value) h in
+    let tests = stamp_tests (has_fixed_form (kind_of key)) (has_room_for_stamp value) h in
     let place = and_parts (nat_le 4 (length value)) (nat_le (offset_of value + 10) (length (text_of value))) tests.1 in
     let wide : 4 ≤ length value = leb-true 4 (length value) place.0 in
     let inside : offset_of value + 10 ≤ length (text_of value) = leb-true (offset_of value + 10) (length (text_of value)) place.1 in
@@ -150,15 +150,15 @@ takes_stamp key value h =
 
 stamp_taken : (key : Key) (value : List ℕ) → TakesStamp key value → fault_of_stamp key value ≡ None
 stamp_taken key value h =
-    stamp_from_tests (is_formed (kind_of key)) (has_place value) h.free
+    stamp_from_tests (has_fixed_form (kind_of key)) (has_room_for_stamp value) h.free
     (and_from (nat_le 4 (length value)) (nat_le (offset_of value + 10) (length (text_of value)))
     (le-leb 4 (length value) (omega (arith, h.room)))
     (le-leb (offset_of value + 10) (length (text_of value)) (omega (arith, h.room, length-text_of value))))
 
 -- a SetStamped without a fault has a place for its stamp
-pub place_of_stamp : (key : Key) (value : List ℕ) → fault_of_mutation (SetStamped key value) ≡ None → has_place value ≡ true
+pub place_of_stamp : (key : Key) (value : List ℕ) → fault_of_mutation (SetStamped key value) ≡ None → has_room_for_stamp value ≡ true
 place_of_stamp key value h =
-    (stamp_tests (is_formed (kind_of key)) (has_place value) (or_none (fault_of_set key value) (fault_of_stamp key value) h).1).1
+    (stamp_tests (has_fixed_form (kind_of key)) (has_room_for_stamp value) (or_none (fault_of_set key value) (fault_of_stamp key value) h).1).1
 
 -- ---- transactions
 
@@ -197,7 +197,7 @@ faultless_from_limits t h =
 -- ---- what a stamp keeps
 
 -- rows of a kind without a form take any value
-any_value : (kind : RowKind) (value : List ℕ) → is_formed kind ≡ false → is_row_value kind value ≡ true
+any_value : (kind : RowKind) (value : List ℕ) → has_fixed_form kind ≡ false → is_row_value kind value ≡ true
 any_value kinds.KeyServers value h = cc
 any_value kinds.ServerTag value h = cc
 any_value _ value h = refl

@@ -30,22 +30,22 @@ abbrev pub fault_of_set : Key → List ℕ → Option Refusal
 fault_of_set key value = option_map refusals.Key (set_fault key value)
 
 -- rows of this kind have values of a fixed form
-abbrev pub is_formed : RowKind → Bool
-is_formed kinds.KeyServers = true
-is_formed kinds.ServerTag = true
-is_formed _ = false
+abbrev pub has_fixed_form : RowKind → Bool
+has_fixed_form kinds.KeyServers = true
+has_fixed_form kinds.ServerTag = true
+has_fixed_form _ = false
 
 -- the value has an offset of four bytes, and before them room for the ten bytes of a stamp at that
 -- offset
-abbrev pub has_place : List ℕ → Bool
-has_place value = nat_le 4 (length value) && nat_le (offset_of value + 10) (length (text_of value))
+abbrev pub has_room_for_stamp : List ℕ → Bool
+has_room_for_stamp value = nat_le 4 (length value) && nat_le (offset_of value + 10) (length (text_of value))
 
 -- why no stamp can go into this row: its values have a fixed form, or the value has no place for
 -- one
 abbrev pub fault_of_stamp : Key → List ℕ → Option Refusal
 fault_of_stamp key value =
-    if is_formed (kind_of key) then Some (refusals.Key BadRow)
-    else if has_place value then None
+    if has_fixed_form (kind_of key) then Some (refusals.Key BadRow)
+    else if has_room_for_stamp value then None
     else Some refusals.BadStamp
 
 -- the first fault of a mutation: the value of a SetStamped counts as it is given

@@ -9,7 +9,7 @@ use Rattle.system_keys.specs.Locations.{is_row_value}
 use Rattle.system_keys.specs.Limits.{key_limit, end_limit, value_limit, key_space_end}
 use Rattle.model.specs.Stamps.{Mutation, Set, Clear, SetStamped, AdmittedTransaction, offset_of}
 use Rattle.model.specs.Transactions.{StampedTransaction}
-use Rattle.mutation.specs.Faults.{is_formed}
+use Rattle.mutation.specs.Faults.{has_fixed_form}
 
 -- the transactions of a batch
 abbrev pub batch_limit : ℕ
@@ -34,7 +34,7 @@ pub record IsRow (key : Key) (value : List ℕ) : Type 0 where
 -- a stamp can go into the row: its values have no fixed form, and before the four bytes of the
 -- offset there is room for ten bytes at it
 pub record TakesStamp (key : Key) (value : List ℕ) : Type 0 where
-  pub free : is_formed (kind_of key) ≡ false
+  pub free : has_fixed_form (kind_of key) ≡ false
   pub room : offset_of value + 10 + 4 ≤ length value
 
 -- a mutation within the limits: the value of a SetStamped counts as it is given

@@ -29,7 +29,7 @@ pub fn admit(alloc: Global, transaction: &Transaction) -> Result<Admitted, Refus
         (unless_fault (transaction_fault given) given) }
 {
     check_transaction(transaction)?;
-    Ok(to_transaction(alloc, transaction.copy()?)?)
+    Ok(to_admitted(alloc, transaction.copy()?)?)
 }
 
 /// Admits a transaction of the caller as `admit` does: its keys and values become those of the
@@ -42,11 +42,11 @@ pub fn admit_owned(alloc: Global, transaction: Transaction) -> Result<Admitted, 
         (unless_fault (transaction_fault given) given) }
 {
     check_transaction(&transaction)?;
-    Ok(to_transaction(alloc, transaction)?)
+    Ok(to_admitted(alloc, transaction)?)
 }
 
 /// Returns the admitted transaction of one without a fault.
-fn to_transaction(alloc: Global, transaction: Transaction) -> Result<Admitted, OutOfMemory>
+fn to_admitted(alloc: Global, transaction: Transaction) -> Result<Admitted, OutOfMemory>
     requires { transaction_fault (given_from transaction) ≡ None }
     ensures { IfOk result (λ admitted. admitted ≡ given_from transaction) }
 {

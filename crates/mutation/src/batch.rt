@@ -63,7 +63,7 @@ impl Batch {
         self.transactions
     }
 
-    /// Returns a deep copy. Fails only with `OutOfMemory`.
+    /// Returns an equal copy. Fails only with `OutOfMemory`.
     pub fn copy(&self) -> Result<Batch, OutOfMemory>
         ensures { IfOk result (λ copy. copy ≡ self.now) }
     {

@@ -2,13 +2,13 @@
 
 ghost use Rattle.std.specs.Prelude.{◌≡◌, ◌≢◌, map, Err};
 ghost use Rattle.std.specs.Result.{result_err};
-ghost use Rattle.mutation.specs.Faults.{first_fault, transaction_fault, is_formed};
+ghost use Rattle.mutation.specs.Faults.{first_fault, transaction_fault, has_fixed_form};
 ghost use Rattle.mutation.specs.Faults.{fault_of_range, fault_of_set, fault_of_stamp};
 ghost use Rattle.mutation.specs.Faults.{fault_of_mutation};
 ghost use Rattle.mutation.specs.Transactions.{range_from, from_unchecked, given_from};
 
 use crate::refusal::Refusal;
-use crate::stamp::has_place;
+use crate::stamp::has_room_for_stamp;
 use crate::transaction::{GivenRange, Mutation, Transaction};
 use system_keys::{RowKind, classify};
 
@@ -82,18 +82,18 @@ fn check_stamp(key: &[u8], value: &[u8]) -> Result<(), Refusal>
     ensures fault { result_err result ≡ fault_of_stamp key.now value.now }
     ensures content { result ≢ Err Refusal.OutOfMemory }
 {
-    if is_formed(classify(key)) {
+    if has_fixed_form(classify(key)) {
         return Err(Refusal::Key(system_keys::Refusal::BadRow));
     }
-    if !has_place(value) {
+    if !has_room_for_stamp(value) {
         return Err(Refusal::BadStamp);
     }
     Ok(())
 }
 
 /// Whether rows of this kind have values of a fixed form.
-fn is_formed(kind: RowKind) -> bool
-    ensures { result ≡ is_formed kind }
+fn has_fixed_form(kind: RowKind) -> bool
+    ensures { result ≡ has_fixed_form kind }
 {
     matches!(kind, RowKind::KeyServers | RowKind::ServerTag)
 }

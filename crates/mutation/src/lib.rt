@@ -19,7 +19,7 @@ mod transaction;
 pub use admission::{admit, admit_owned};
 pub use admitted::{Admitted, AdmittedMutation};
 pub use batch::{BATCH_LIMIT, Batch};
-pub use laws::{fault_law, limits_law, stamped_law};
+pub use laws::{first_fault_law, no_fault_within_limits_law, stamps_keep_limits_law};
 pub use refusal::Refusal;
 pub use stamped::Stamped;
 pub use transaction::{GivenRange, Mutation, Transaction};

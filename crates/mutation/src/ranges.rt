@@ -1,4 +1,4 @@
-//! The ranges of a transaction.
+//! The ranges of an admitted transaction, which its copies share.
 
 ghost use Rattle.std.specs.Prelude.{◌≡◌, IfOk};
 ghost use Rattle.std.specs.Arc.{arc_value};

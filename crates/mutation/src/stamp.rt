@@ -5,8 +5,8 @@
 //! bytes and the number of the transaction in two, high byte first (release 7.1).
 
 ghost use Rattle.std.specs.Prelude.{◌≡◌, ◌<◌, ◌^◌, length, IfOk, IsTrue};
-ghost use Rattle.model.specs.Stamps.{little_endian, stamp, stamped_value};
-ghost use Rattle.mutation.specs.Faults.{has_place};
+ghost use Rattle.model.specs.Stamps.{from_little_endian, stamp, stamped_value};
+ghost use Rattle.mutation.specs.Faults.{has_room_for_stamp};
 
 use model::{TransactionNumber, Version};
 use std::alloc::Global;
@@ -19,14 +19,14 @@ const OFFSET_LENGTH: usize = 4;
 const STAMP_LENGTH: usize = 10;
 
 /// Whether the value has an offset, and room for a stamp there.
-pub(crate) fn has_place(value: &[u8]) -> bool
-    ensures { result ≡ has_place value.now }
+pub(crate) fn has_room_for_stamp(value: &[u8]) -> bool
+    ensures { result ≡ has_room_for_stamp value.now }
 {
     if value.len() < OFFSET_LENGTH {
         return false;
     }
     let (text, offset) = value.split_at(value.len() - OFFSET_LENGTH);
-    little_endian(offset) + STAMP_LENGTH <= text.len()
+    from_little_endian(offset) + STAMP_LENGTH <= text.len()
 }
 
 /// Returns the value with its stamp in.
@@ -36,11 +36,11 @@ pub(crate) fn stamped_value(
     number: TransactionNumber,
     value: &[u8],
 ) -> Result<Vec<u8>, OutOfMemory>
-    requires { IsTrue (has_place value.now) }
+    requires { IsTrue (has_room_for_stamp value.now) }
     ensures { IfOk result (λ bytes. bytes.items ≡ stamped_value version number value.now) }
 {
     let (text, offset) = value.split_at(value.len() - OFFSET_LENGTH);
-    let begin = little_endian(offset);
+    let begin = from_little_endian(offset);
     let mut bytes = Vec::with_capacity(alloc, text.len())?;
     bytes.extend_from_slice(&text[..begin])?;
     bytes.extend_from_slice(&stamp(version, number))?;
@@ -49,9 +49,9 @@ pub(crate) fn stamped_value(
 }
 
 /// The number of four bytes, low byte first.
-fn little_endian(bytes: &[u8]) -> usize
+fn from_little_endian(bytes: &[u8]) -> usize
     requires { length bytes.now ≡ 4 }
-    ensures value { result ≡ little_endian bytes.now }
+    ensures value { result ≡ from_little_endian bytes.now }
     ensures small { result < 2 ^ 32 }
 {
     match bytes {

@@ -1,4 +1,4 @@
-//! Transactions with their stamps in.
+//! A transaction with its stamps in: its changes, and which of them are state mutations.
 
 ghost use Rattle.std.specs.Prelude.{◌≡◌, None, filter, map, IfOk};
 ghost use Rattle.system_keys.specs.Changes.{is_state};

@@ -1,4 +1,4 @@
-//! What text is printed to.
+//! The trait of what text is printed to.
 ghost use Rattle.std.specs.Prelude.{ℕ, List};
 ghost use Rattle.pages.specs.Printing.{Prints};
 

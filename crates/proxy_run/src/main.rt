@@ -35,7 +35,7 @@ fn words(rt: &HostRuntime) -> Result<Vec<String>, Status> {
         Err(error) if error.kind() == ErrorKind::OutOfMemory => return Err(Status::Ran(
             RunStatus::OutOfMemory,
         )),
-        Err(_) => return Err(words_are_no_text(alloc)),
+        Err(_) => return Err(report_words_are_no_text(alloc)),
     };
     match args.skip(1).collect::<Vec<String>>(alloc) {
         Ok(words) => Ok(words),
@@ -44,7 +44,7 @@ fn words(rt: &HostRuntime) -> Result<Vec<String>, Status> {
 }
 
 // Refuses a command line with a word that is not UTF-8: `clap` takes text alone.
-fn words_are_no_text(alloc: Global) -> Status
+fn report_words_are_no_text(alloc: Global) -> Status
     ensures { let text = line (codes "error: a word of the command line is not UTF-8") in
         IsRejectedWith (λ told. told ≡ text) result }
 {

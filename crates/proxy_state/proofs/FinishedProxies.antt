@@ -16,11 +16,11 @@ use Rattle.model.specs.Finishing.{ProxyView, Replies, disagreements, rows_by_rep
 use Rattle.model.proofs.Proxies.AgreeingReplies.{agree_on_told}
 use Rattle.model.proofs.Shares.Askers.{journal_row_alike}
 use Rattle.model.proofs.Agreement.AgreeingSources.{finished_after_alike}
-use Rattle.proxy_state.specs.declared.begun.BegunRecord.{BegunRecord}
+use Rattle.proxy_state.specs.declared.begun_record.BegunRecord.{BegunRecord}
 use Rattle.proxy_state.specs.declared.learned.Learned.{Learned}
 use Rattle.proxy_state.specs.Begun.{record_of, AreBegun, IsKept}
-use Rattle.proxy_state.specs.Learning.{columns_of, by_columns}
-use Rattle.proxy_state.specs.Finishing.{IsReplied, IsLearned, finished_by, after_told, after_batch}
+use Rattle.proxy_state.specs.Learning.{columns_of_replies, by_columns}
+use Rattle.proxy_state.specs.Finishing.{IsReplied, IsLearned, finished_by_columns, after_told, after_batch}
 use Rattle.proxy_state.proofs.ColumnLaws.{columns_agree}
 
 -- ---- the earliest record
@@ -46,10 +46,10 @@ replied_first config owned version last (first ∷ later) journal entries v repl
 
 pub learned_from : (v : ProxyView) (config : Config) (replies : Replies) (one : BegunRecord) (learned : Learned)
     → IsReplied v replies one → config ≡ v.config → learned.told.items ≡ rows_by_replies config.resolvers replies → learned.own ≡ journal_row config (by_columns learned.columns.items) one.rec
-    → learned.columns.items ≡ columns_of config.resolvers one.asked replies → IsLearned v replies learned
+    → learned.columns.items ≡ columns_of_replies config.resolvers one.asked replies → IsLearned v replies learned
 learned_from v config replies one learned replied same told own columns =
-    let columns_are : learned.columns.items ≡ columns_of v.config.resolvers (map (asked v.config one.rec) one.rec.batch) replies =
-    columns ∙ (λ i. columns_of (same i).resolvers one.asked replies) ∙ ap (λ (lists : List (List ℕ)). columns_of v.config.resolvers lists replies) replied.asking in
+    let columns_are : learned.columns.items ≡ columns_of_replies v.config.resolvers (map (asked v.config one.rec) one.rec.batch) replies =
+    columns ∙ (λ i. columns_of_replies (same i).resolvers one.asked replies) ∙ ap (λ (lists : List (List ℕ)). columns_of_replies v.config.resolvers lists replies) replied.asking in
     record {
       rec = one.rec;
       rest = replied.rest;
@@ -109,12 +109,12 @@ kept_finish v owned version last next (first ∷ later) left grown entries after
 
 -- the finished batch by columns
 finished_columns : (config : Config) (columns : List (List Verdict)) (rec : Record) (journal told : List JournalRow) (own : JournalRow) → own ≡ journal_row config (by_columns columns) rec
-    → finished_by config columns (is_locked (fold after_journal_row (metadata journal) told)) (after_journal_row (fold after_journal_row (metadata journal) told) own) rec ≡ finished_after config (by_columns columns) (journal ++ told) rec
+    → finished_by_columns config columns (is_locked (fold after_journal_row (metadata journal) told)) (after_journal_row (fold after_journal_row (metadata journal) told) own) rec ≡ finished_after config (by_columns columns) (journal ++ told) rec
 unfolding finished_after outcomes_after
 finished_columns config columns rec journal told own is =
-    ap (λ (before : Entries). finished_by config columns (is_locked before) (after_journal_row (fold after_journal_row (metadata journal) told) own) rec) (sym (metadata_told journal told))
-    ∙ ap (λ (after : Entries). finished_by config columns (is_locked (metadata (journal ++ told))) after rec) (sym (metadata_grown journal told own))
-    ∙ ap (λ (row : JournalRow). finished_by config columns (is_locked (metadata (journal ++ told))) (metadata ((journal ++ told) ++ row ∷ [])) rec) is
+    ap (λ (before : Entries). finished_by_columns config columns (is_locked before) (after_journal_row (fold after_journal_row (metadata journal) told) own) rec) (sym (metadata_told journal told))
+    ∙ ap (λ (after : Entries). finished_by_columns config columns (is_locked (metadata (journal ++ told))) after rec) (sym (metadata_grown journal told own))
+    ∙ ap (λ (row : JournalRow). finished_by_columns config columns (is_locked (metadata (journal ++ told))) (metadata ((journal ++ told) ++ row ∷ [])) rec) is
 
 first_of : (v : ProxyView) (begun left : List BegunRecord) (one : BegunRecord) (rec : Record) (rest : List Record) → 0 < length begun → one ≡ slice_index_or begun 0 one → left ≡ drop 1 begun → v.begun ≡ map record_of begun → v.begun ≡ rec ∷ rest → (one.rec ≡ rec) × (map record_of left ≡ rest)
 first_of v [] left one rec rest some one_is left_is are is = absurd (omega (arith, some))
@@ -126,7 +126,7 @@ first_of v (first ∷ later) left one rec rest some one_is left_is are is =
 
 pub has_finished : (v : ProxyView) (next : ℕ) (begun left : List BegunRecord) (grown : List JournalRow) (entries after : Entries) (one : BegunRecord) (learned : Learned) (replies : Replies) (finished : Finished)
     → AreFinishing v begun left grown entries after one learned → v.begun ≡ map record_of begun → entries ≡ metadata v.journal → next ≡ one.rec.version → IsLearned v replies learned
-    → finished ≡ finished_by v.config learned.columns.items (is_locked (after_told entries learned)) after one.rec
+    → finished ≡ finished_by_columns v.config learned.columns.items (is_locked (after_told entries learned)) after one.rec
     → HasFinished v (record v { begun = map record_of left; version = next; journal = grown }) replies finished
 has_finished v next begun left grown entries after one learned replies finished calls are is dated tells answer =
     let first = first_of v begun left one tells.rec tells.rest calls.some calls.one_is calls.left_is are tells.begun_is in
@@ -144,9 +144,9 @@ has_finished v next begun left grown entries after one learned replies finished 
       after = λ i. record v { begun = first.1 i; version = version i; journal = grown_all i };
       finished_is =
           answer
-          ∙ ap (finished_by v.config learned.columns.items (is_locked (after_told entries learned)) after) first.0
-          ∙ ap (λ (now : Entries). finished_by v.config learned.columns.items (is_locked (after_told entries learned)) now tells.rec) calls.after_is
-          ∙ ap (λ (before : Entries). finished_by v.config learned.columns.items (is_locked (after_told before learned)) (after_batch before learned) tells.rec) is
+          ∙ ap (finished_by_columns v.config learned.columns.items (is_locked (after_told entries learned)) after) first.0
+          ∙ ap (λ (now : Entries). finished_by_columns v.config learned.columns.items (is_locked (after_told entries learned)) now tells.rec) calls.after_is
+          ∙ ap (λ (before : Entries). finished_by_columns v.config learned.columns.items (is_locked (after_told before learned)) (after_batch before learned) tells.rec) is
           ∙ finished_columns v.config learned.columns.items tells.rec v.journal learned.told.items learned.own tells.own
           ∙ finished_after_alike v.config (by_columns learned.columns.items) (replied_verdicts v.config tells.rec replies) (v.journal ++ learned.told.items) tells.rec tells.alike;
     }

@@ -10,7 +10,7 @@ use Rattle.model.specs.Metadata.{Entries, metadata}
 use Rattle.model.specs.OwnerMaps.{OwnerMapView, StandsForMoves, AsksAs, DatesInOrder}
 use Rattle.model.specs.Finishing.{ProxyView, MayBegin, MayBeMade}
 use Rattle.model.proofs.Owners.Asking.{standing_asks}
-use Rattle.proxy_state.specs.declared.begun.BegunRecord.{BegunRecord}
+use Rattle.proxy_state.specs.declared.begun_record.BegunRecord.{BegunRecord}
 use Rattle.proxy_state.specs.Begun.{FollowsOwn, AreBegun, IsKept}
 use Rattle.proxy_state.specs.Beginning.{begin_fault, MayGain, HasGained, HasMapFor, AsksFor, IsMapFor, IsKeptFor}
 use Rattle.proxy_state.specs.HeldMaps.{IsMapOf, IsFilled, AsksBackTo}

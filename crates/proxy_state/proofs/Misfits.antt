@@ -10,8 +10,8 @@ use Rattle.model.specs.declared.reply.Reply.{Reply}
 use Rattle.model.specs.Records.{Record}
 use Rattle.model.specs.Shares.{share, each_below}
 use Rattle.model.specs.Finishing.{Replies, reply_from, row_from, unseen_of_reply, row_fits, version_at, place_fits, place_fits_by, misfits, is_reply_to, are_replies_to, disagreements}
-use Rattle.proxy_state.specs.declared.begun.BegunRecord.{BegunRecord}
-use Rattle.proxy_state.specs.Learning.{AskedAreKept, part_count, has_numbers}
+use Rattle.proxy_state.specs.declared.begun_record.BegunRecord.{BegunRecord}
+use Rattle.proxy_state.specs.Learning.{AskedAreKept, count_parts_for, has_reply_numbers}
 use Rattle.proxy_state.proofs.AskedParts.{share_counted}
 use Rattle.proxy_state.proofs.BelowLaws.{none_next, first_passing}
 
@@ -60,7 +60,7 @@ disagree_record config version rec replies some = rw some refl
 
 -- ---- one reply
 
-pub reply_numbers : (config : Config) (begun : BegunRecord) (r : ℕ) (reply : Reply) → AskedAreKept config begun → r < config.resolvers → has_numbers begun.rec r (part_count r begun.asked) reply ≡ is_reply_to config begun.rec r (Some reply)
+pub reply_numbers : (config : Config) (begun : BegunRecord) (r : ℕ) (reply : Reply) → AskedAreKept config begun → r < config.resolvers → has_reply_numbers begun.rec r (count_parts_for r begun.asked) reply ≡ is_reply_to config begun.rec r (Some reply)
 reply_numbers config begun r reply asking below =
-    let count : part_count r begun.asked ≡ length (share config begun.rec r) = ap (part_count r) asking ∙ sym (share_counted config begun.rec r below) in
-    ap (λ (n : ℕ). has_numbers begun.rec r n reply) count
+    let count : count_parts_for r begun.asked ≡ length (share config begun.rec r) = ap (count_parts_for r) asking ∙ sym (share_counted config begun.rec r below) in
+    ap (λ (n : ℕ). has_reply_numbers begun.rec r n reply) count

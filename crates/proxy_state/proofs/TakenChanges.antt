@@ -8,7 +8,7 @@ use Rattle.model.specs.declared.outcome.Tagged.{Tagged}
 use Rattle.model.specs.Metadata.{Entries}
 use Rattle.model.specs.Transactions.{StampedTransaction}
 use Rattle.model.specs.World.{tagged_from, tagged_one, tagged_all}
-use Rattle.proxy_state.specs.TakenChanges.{without_change, with_changes, changes_if, changes_of}
+use Rattle.proxy_state.specs.TakenChanges.{without_change, with_changes, changes_if_committed, changes_of}
 
 abbrev change_of : Tagged → Change
 change_of mutation = mutation.change
@@ -19,7 +19,7 @@ from_changes : (entries : Entries) (number n : ℕ) (changes : List Change) → 
 from_changes entries number n [] = refl
 from_changes entries number n (change ∷ changes) = ap (λ (cs : List Change). change ∷ cs) (from_changes entries number (suc n) changes)
 
-one_changes : (entries : Entries) (t : StampedTransaction) (outcome : Outcome) → map change_of (tagged_one entries t outcome) ≡ changes_if t outcome
+one_changes : (entries : Entries) (t : StampedTransaction) (outcome : Outcome) → map change_of (tagged_one entries t outcome) ≡ changes_if_committed t outcome
 one_changes entries t (Committed version number) = from_changes entries number 0 t.changes
 one_changes entries t Conflict = refl
 one_changes entries t TooOld = refl
@@ -101,7 +101,7 @@ put_run xs now i m cs more left whole room next is split so_far =
 -- ---- the transactions that are left
 
 -- of the transactions that are left the first has its changes first
-pub next_changes : (ts rest : List StampedTransaction) (t : StampedTransaction) (outcomes : List Outcome) (n m : ℕ) (d : Outcome) (cs : List Change) → ts ≡ t ∷ rest → n < length outcomes → cs ≡ changes_if t (get_or outcomes n d) → m ≡ n + 1
+pub next_changes : (ts rest : List StampedTransaction) (t : StampedTransaction) (outcomes : List Outcome) (n m : ℕ) (d : Outcome) (cs : List Change) → ts ≡ t ∷ rest → n < length outcomes → cs ≡ changes_if_committed t (get_or outcomes n d) → m ≡ n + 1
     → changes_of ts (drop n outcomes) ≡ cs ++ changes_of rest (drop m outcomes)
 next_changes ts rest t outcomes n m d cs split within is next =
     let step : suc n ≡ m = omega (arith, next) in

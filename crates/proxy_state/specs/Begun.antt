@@ -8,7 +8,7 @@ use Rattle.model.specs.Records.{Record}
 use Rattle.model.specs.Shares.{asked}
 use Rattle.model.specs.Metadata.{Entries, metadata}
 use Rattle.model.specs.OwnerMaps.{OwnerMapView}
-use Rattle.proxy_state.specs.declared.begun.BegunRecord.{BegunRecord}
+use Rattle.proxy_state.specs.declared.begun_record.BegunRecord.{BegunRecord}
 
 -- the record of a begun record
 abbrev pub record_of : BegunRecord → Record

@@ -10,14 +10,14 @@ use Rattle.model.specs.Transactions.{StampedTransaction}
 use Rattle.model.specs.Records.{Record}
 use Rattle.model.specs.Verdicts.{joined}
 use Rattle.model.specs.Metadata.{Entries, after_journal_row}
-use Rattle.model.specs.Outcomes.{outcome_by, is_refused, outcomes_from}
+use Rattle.model.specs.Outcomes.{outcome_of_verdict, is_refused, outcomes_from}
 use Rattle.model.specs.World.{tagged_all}
 use Rattle.model.specs.Journal.{journal_row, AgreeOn}
 use Rattle.model.specs.Finishing.{ProxyView, Replies, unreplied, disagreements, rows_by_replies}
 use Rattle.model.specs.Finishing.{replied_verdicts, AgreeOnRows}
 use Rattle.metadata.specs.Started.{after_rows}
 use Rattle.proxy_state.specs.Learning.{AskedAreKept, by_columns}
-use Rattle.proxy_state.specs.declared.begun.BegunRecord.{BegunRecord}
+use Rattle.proxy_state.specs.declared.begun_record.BegunRecord.{BegunRecord}
 use Rattle.proxy_state.specs.declared.learned.Learned.{Learned}
 use Rattle.proxy_state.specs.declared.refusal.Refusal.{Refusal}
 use Rattle.proxy_state.specs.declared.refusal.Refusal.TheVariants.{OutOfTurn, MissingReply}
@@ -68,28 +68,28 @@ pub record IsLearned (v : ProxyView) (replies : Replies) (learned : Learned) : T
 -- ---- the finished batch
 
 -- the outcome of transaction n of a record of this version, which asks the resolvers of the list
-abbrev pub outcome_asked :
+abbrev pub outcome_of_transaction :
     (columns : List (List Verdict)) (locked : Bool) → Version → (n : TransactionNumber)
     → StampedTransaction → (list : List ℕ) → Outcome
-outcome_asked columns locked version n t list =
-    outcome_by (joined (map (λ r. by_columns columns r 0 n) list)) (is_refused locked t) version n
+outcome_of_transaction columns locked version n t list =
+    outcome_of_verdict (joined (map (λ r. by_columns columns r 0 n) list)) (is_refused locked t) version n
 
 -- the outcomes of some transactions of a record of this version, numbered from n; beside each
 -- transaction stands the list of the resolvers that it asks
-abbrev pub outcomes_by :
+abbrev pub outcomes_by_columns :
     (columns : List (List Verdict)) (locked : Bool) → Version → (n : TransactionNumber)
     → List StampedTransaction → (lists : List (List ℕ)) → List Outcome
-outcomes_by columns locked version n [] lists = []
-outcomes_by columns locked version n (t ∷ ts) [] = []
-outcomes_by columns locked version n (t ∷ ts) (list ∷ lists) =
-    outcome_asked columns locked version n t list
-    ∷ outcomes_by columns locked version (suc n) ts lists
+outcomes_by_columns columns locked version n [] lists = []
+outcomes_by_columns columns locked version n (t ∷ ts) [] = []
+outcomes_by_columns columns locked version n (t ∷ ts) (list ∷ lists) =
+    outcome_of_transaction columns locked version n t list
+    ∷ outcomes_by_columns columns locked version (suc n) ts lists
 
 -- the finished batch of a record by the verdicts of columns; `locked` is the lock before it, and
 -- `entries` is the metadata after it
-abbrev pub finished_by :
+abbrev pub finished_by_columns :
     Config → (columns : List (List Verdict)) (locked : Bool) (entries : Entries) → Record → Finished
-finished_by config columns locked entries rec =
+finished_by_columns config columns locked entries rec =
     let results = outcomes_from config (by_columns columns) locked rec 0 rec.batch in
     record {
       row = rec.row;

@@ -10,19 +10,19 @@ use Rattle.model.specs.declared.reply.Reply.{Reply}
 use Rattle.model.specs.Records.{Record}
 use Rattle.model.specs.declared.verdict.Verdict.{Verdict}
 use Rattle.model.specs.declared.verdict.Verdict.TheVariants.{Conflict}
-use Rattle.proxy_state.specs.declared.begun.BegunRecord.{BegunRecord}
+use Rattle.proxy_state.specs.declared.begun_record.BegunRecord.{BegunRecord}
 
 -- beside the record stand the resolvers that it asks about each transaction
 abbrev pub AskedAreKept : Config → BegunRecord → Type 0
 AskedAreKept config begun = begun.asked ≡ map (asked config begun.rec) begun.rec.batch
 
 -- the resolver is in the list
-abbrev pub is_in : (r : ℕ) → List ℕ → Bool
-is_in r list = list_any (λ a. nat_eq a r) list
+abbrev pub is_resolver_in : (r : ℕ) → List ℕ → Bool
+is_resolver_in r list = list_any (λ a. nat_eq a r) list
 
 -- how many of the lists have the resolver
-abbrev pub part_count : (r : ℕ) → List (List ℕ) → ℕ
-part_count r lists = length (filter (is_in r) lists)
+abbrev pub count_parts_for : (r : ℕ) → List (List ℕ) → ℕ
+count_parts_for r lists = length (filter (is_resolver_in r) lists)
 
 -- the first verdict, or Conflict if there is none
 abbrev pub first_verdict : List Verdict → Verdict
@@ -30,16 +30,16 @@ first_verdict verdicts = unwrap_or (slice_get verdicts 0) Conflict
 
 -- The verdicts of resolver r, one for each list: the next of these verdicts if the list has r, and
 -- Conflict if it has not or if no verdict is left.
-abbrev pub column_by : (r : ℕ) → List (List ℕ) → List Verdict → List Verdict
-column_by r [] verdicts = []
-column_by r (list ∷ lists) verdicts =
-    if is_in r list
-    then first_verdict verdicts ∷ column_by r lists (drop 1 verdicts)
-    else Conflict ∷ column_by r lists verdicts
+abbrev pub column_of_resolver : (r : ℕ) → List (List ℕ) → List Verdict → List Verdict
+column_of_resolver r [] verdicts = []
+column_of_resolver r (list ∷ lists) verdicts =
+    if is_resolver_in r list
+    then first_verdict verdicts ∷ column_of_resolver r lists (drop 1 verdicts)
+    else Conflict ∷ column_of_resolver r lists verdicts
 
 -- the reply has the numbers of resolver r and of the record, and this number of verdicts
-abbrev pub has_numbers : Record → (r count : ℕ) → Reply → Bool
-has_numbers rec r count reply =
+abbrev pub has_reply_numbers : Record → (r count : ℕ) → Reply → Bool
+has_reply_numbers rec r count reply =
     nat_eq reply.resolver r
     && nat_eq reply.proxy rec.proxy
     && nat_eq reply.row rec.row
@@ -47,9 +47,9 @@ has_numbers rec r count reply =
     && nat_eq (length reply.verdicts) count
 
 -- a column for each resolver, by the verdicts that it replied
-abbrev pub columns_of : (resolvers : ℕ) → List (List ℕ) → Replies → List (List Verdict)
-columns_of resolvers lists replies =
-    map (λ r. column_by r lists (verdicts_of_reply (reply_from replies r))) (each_below resolvers)
+abbrev pub columns_of_replies : (resolvers : ℕ) → List (List ℕ) → Replies → List (List Verdict)
+columns_of_replies resolvers lists replies =
+    map (λ r. column_of_resolver r lists (verdicts_of_reply (reply_from replies r))) (each_below resolvers)
 
 -- the verdicts on a record by columns, whatever row is named: the verdict of resolver r on transaction n is
 -- element n of its column, or Conflict if there is none

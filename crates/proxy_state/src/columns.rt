@@ -1,4 +1,5 @@
-//! The verdicts of the resolvers on a proxy's own batch, by their replies.
+//! The columns of verdicts on a proxy's own batch, made of the replies, and the verdicts in them,
+//! joined.
 //!
 //! Release 7.1, `CommitProxyServer.actor.cpp`, determineCommittedTransactions; what differs is marked
 //! *profile*.
@@ -7,9 +8,9 @@ ghost use Rattle.std.specs.Prelude.{◌≡◌, map, IfOk};
 ghost use Rattle.model.specs.Shares.{each_below};
 ghost use Rattle.model.specs.Verdicts.{joined};
 ghost use Rattle.model.specs.Finishing.{reply_from, verdicts_of_reply};
-ghost use Rattle.proxy_state.specs.Learning.{column_by, columns_of, by_columns};
+ghost use Rattle.proxy_state.specs.Learning.{column_of_resolver, columns_of_replies, by_columns};
 
-use crate::disagreements::{is_in, reply_from};
+use crate::disagreements::{is_resolver_in, reply_from};
 use crate::joined_verdict::least_of;
 use model::{Reply, ResolverNumber, TransactionNumber, Verdict};
 use std::alloc::Global;
@@ -17,19 +18,19 @@ use system_keys::{Items, OutOfMemory};
 
 /// A column for each resolver, which has its verdict on each transaction. The lists have the resolvers
 /// that get a part of each transaction. Fails only with `OutOfMemory`.
-pub(crate) fn columns_of(
+pub(crate) fn columns_of_replies(
     alloc: Global,
     resolvers: usize,
     lists: &[Items<ResolverNumber>],
     replies: &[Option<Reply>],
 ) -> Result<Vec<Items<Verdict>>, OutOfMemory>
     ensures { IfOk result (λ columns.
-        columns.items ≡ columns_of resolvers lists.now replies.now) }
+        columns.items ≡ columns_of_replies resolvers lists.now replies.now) }
 {
     let mut columns = Vec::with_capacity(alloc, resolvers)?;
     for resolver in 0..resolvers {
         let verdicts = replied_verdicts(replies, resolver);
-        columns.push(column_by(alloc, resolver, lists, verdicts)?)?;
+        columns.push(column_of_resolver(alloc, resolver, lists, verdicts)?)?;
     }
     Ok(columns)
 }
@@ -46,19 +47,19 @@ fn replied_verdicts(replies: &[Option<Reply>], resolver: ResolverNumber) -> &[Ve
 
 /// One verdict for each list: the next of these verdicts if the list has the resolver, and otherwise
 /// Conflict.
-fn column_by(
+fn column_of_resolver(
     alloc: Global,
     resolver: ResolverNumber,
     lists: &[Items<ResolverNumber>],
     verdicts: &[Verdict],
 ) -> Result<Items<Verdict>, OutOfMemory>
-    ensures { IfOk result (λ column. column ≡ column_by resolver lists.now verdicts.now) }
+    ensures { IfOk result (λ column. column ≡ column_of_resolver resolver lists.now verdicts.now) }
 {
     let mut column = Vec::with_capacity(alloc, lists.len())?;
     let mut rest = verdicts;
     for list in lists {
         let mut verdict = Verdict::Conflict;
-        if is_in(resolver, list.as_slice()) {
+        if is_resolver_in(resolver, list.as_slice()) {
             if let [first, later @ ..] = rest {
                 verdict = *first;
                 rest = later;
@@ -70,7 +71,7 @@ fn column_by(
 }
 
 /// The verdict of the resolver on the transaction of this number, by the columns.
-fn verdict_by(
+fn verdict_in_columns(
     columns: &[Items<Verdict>],
     resolver: ResolverNumber,
     number: TransactionNumber,
@@ -87,7 +88,7 @@ fn verdict_by(
 }
 
 /// The verdict of each resolver on the transaction of this number. Fails only with `OutOfMemory`.
-pub(crate) fn verdicts_by(
+pub(crate) fn verdicts_in_columns(
     alloc: Global,
     resolvers: usize,
     columns: &[Items<Verdict>],
@@ -98,14 +99,14 @@ pub(crate) fn verdicts_by(
 {
     let mut verdicts = Vec::with_capacity(alloc, resolvers)?;
     for resolver in 0..resolvers {
-        verdicts.push(verdict_by(columns, resolver, number))?;
+        verdicts.push(verdict_in_columns(columns, resolver, number))?;
     }
     Ok(verdicts)
 }
 
 /// The least verdict of the resolvers in the list on the transaction of this number.
 #[tactic(auto, using(crate::proofs::Joins::least_of_least))]
-pub(crate) fn joined_verdict_by(
+pub(crate) fn joined_verdict_in_columns(
     columns: &[Items<Verdict>],
     list: &[ResolverNumber],
     number: TransactionNumber,
@@ -114,7 +115,7 @@ pub(crate) fn joined_verdict_by(
 {
     let mut least = Verdict::Committed;
     for resolver in list {
-        least = least_of(least, verdict_by(columns, *resolver, number));
+        least = least_of(least, verdict_in_columns(columns, *resolver, number));
     }
     least
 }

@@ -1,4 +1,4 @@
-//! Whether the replies to a record have come and agree.
+//! Whether each reply is to the record, and whether the unseen rows of all replies agree.
 //!
 //! Release 7.1, `CommitProxyServer.actor.cpp`, getResolution; what differs is marked *profile*.
 
@@ -7,11 +7,12 @@ ghost use Rattle.std.specs.Prelude.{slice_get, is_some, not};
 ghost use Rattle.std.specs.List.{list_all};
 ghost use Rattle.model.specs.Shares.{each_below};
 ghost use Rattle.model.specs.Finishing.{reply_from, row_from, unseen_of_reply, unreplied};
-ghost use Rattle.model.specs.Finishing.{is_reply_to, are_replies_to, carries_as, row_fits};
+ghost use Rattle.model.specs.Finishing.{is_reply_to, are_replies_to, has_content_for, row_fits};
 ghost use Rattle.model.specs.Finishing.{place_fits, version_at, misfits, disagreements};
-ghost use Rattle.proxy_state.specs.Learning.{AskedAreKept, is_in, part_count, has_numbers};
+ghost use Rattle.proxy_state.specs.Learning.{AskedAreKept, is_resolver_in, count_parts_for};
+ghost use Rattle.proxy_state.specs.Learning.{has_reply_numbers};
 
-use crate::begun::BegunRecord;
+use crate::begun_record::BegunRecord;
 use model::{Config, Reply, ResolverNumber, UnseenRow, UnseenState, Version};
 use request_builder::Record;
 use system_keys::Items;
@@ -102,16 +103,16 @@ fn is_reply_to(
 {
     match reply_from(replies, resolver) {
         Some(reply) => {
-            let count = part_count(resolver, begun.asked.as_slice());
-            has_numbers(&begun.rec, resolver, count, reply)
+            let count = count_parts_for(resolver, begun.asked.as_slice());
+            has_reply_numbers(&begun.rec, resolver, count, reply)
         }
         None => false,
     }
 }
 
 /// Whether the reply has the numbers of the resolver and of the record, and this number of verdicts.
-fn has_numbers(rec: &Record, resolver: ResolverNumber, count: usize, reply: &Reply) -> bool
-    ensures { result ≡ has_numbers rec.now resolver count reply.now }
+fn has_reply_numbers(rec: &Record, resolver: ResolverNumber, count: usize, reply: &Reply) -> bool
+    ensures { result ≡ has_reply_numbers rec.now resolver count reply.now }
 {
     reply.resolver == resolver
         && reply.proxy == rec.proxy()
@@ -121,12 +122,12 @@ fn has_numbers(rec: &Record, resolver: ResolverNumber, count: usize, reply: &Rep
 }
 
 /// How many of the lists have the resolver.
-fn part_count(resolver: ResolverNumber, lists: &[Items<ResolverNumber>]) -> usize
-    ensures { result ≡ part_count resolver lists.now }
+fn count_parts_for(resolver: ResolverNumber, lists: &[Items<ResolverNumber>]) -> usize
+    ensures { result ≡ count_parts_for resolver lists.now }
 {
     let mut count = 0;
     for list in lists {
-        if is_in(resolver, list.as_slice()) {
+        if is_resolver_in(resolver, list.as_slice()) {
             count += 1;
         }
     }
@@ -134,8 +135,8 @@ fn part_count(resolver: ResolverNumber, lists: &[Items<ResolverNumber>]) -> usiz
 }
 
 /// Whether the resolver is in the list.
-pub(crate) fn is_in(resolver: ResolverNumber, list: &[ResolverNumber]) -> bool
-    ensures { result ≡ is_in resolver list.now }
+pub(crate) fn is_resolver_in(resolver: ResolverNumber, list: &[ResolverNumber]) -> bool
+    ensures { result ≡ is_resolver_in resolver list.now }
 {
     list.iter().any(|asked| *asked == resolver)
 }
@@ -153,7 +154,7 @@ fn first_misfit(
     ensures { result ≡ slice_get (map (version_at config.now.step version)
         (misfits config.now version end replies.now)) 0 }
 {
-    let count = unseen_count(replies);
+    let count = count_unseen_rows(replies);
     let mut before = version;
     for place in 0..count {
         if !place_fits(config, before, end, replies, place) {
@@ -187,12 +188,12 @@ fn place_fits(
             let count = row.states.as_slice().len();
             expected <= end && rows_fit(config.resolvers(), expected, count, replies, place)
         }
-        None => before == end && no_rows(config.resolvers(), replies, place),
+        None => before == end && no_rows_at(config.resolvers(), replies, place),
     }
 }
 
 /// How many unseen rows resolver 0 replied.
-fn unseen_count(replies: &[Option<Reply>]) -> usize
+fn count_unseen_rows(replies: &[Option<Reply>]) -> usize
     ensures { result ≡ length (unseen_of_reply (reply_from replies.now 0)) }
 {
     match reply_from(replies, 0) {
@@ -233,22 +234,22 @@ fn row_fits(
     match row_from(replies, place, resolver) {
         Some(row) => {
             let states = row.states.as_slice();
-            row.version == version && states.len() == count && carry_as(resolver, states)
+            row.version == version && states.len() == count && have_content_for(resolver, states)
         }
         None => false,
     }
 }
 
 /// Whether the state transactions have their content exactly if the resolver is 0.
-fn carry_as(resolver: ResolverNumber, states: &[UnseenState]) -> bool
-    ensures { result ≡ list_all (carries_as resolver) states.now }
+fn have_content_for(resolver: ResolverNumber, states: &[UnseenState]) -> bool
+    ensures { result ≡ list_all (has_content_for resolver) states.now }
 {
-    states.iter().all(|state| carries_as(resolver, state))
+    states.iter().all(|state| has_content_for(resolver, state))
 }
 
 /// Whether the state transaction has its content exactly if the resolver is 0.
-fn carries_as(resolver: ResolverNumber, state: &UnseenState) -> bool
-    ensures { result ≡ carries_as resolver state.now }
+fn has_content_for(resolver: ResolverNumber, state: &UnseenState) -> bool
+    ensures { result ≡ has_content_for resolver state.now }
 {
     if resolver == 0 {
         state.carried.is_some()
@@ -258,7 +259,7 @@ fn carries_as(resolver: ResolverNumber, state: &UnseenState) -> bool
 }
 
 /// Whether no resolver has a row at the place.
-fn no_rows(resolvers: usize, replies: &[Option<Reply>], place: usize) -> bool
+fn no_rows_at(resolvers: usize, replies: &[Option<Reply>], place: usize) -> bool
     ensures { result ≡ list_all (λ r. not (is_some (row_from replies.now place r)))
         (each_below resolvers) }
 {

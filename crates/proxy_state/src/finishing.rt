@@ -5,11 +5,11 @@
 ghost use Rattle.std.specs.Prelude.{◌≡◌, IfOk, OnOk, OnErr};
 ghost use Rattle.model.specs.Metadata.{is_locked};
 ghost use Rattle.proxy_state.specs.Learning.{AskedAreKept};
-ghost use Rattle.proxy_state.specs.Finishing.{after_told, after_batch, finished_by};
+ghost use Rattle.proxy_state.specs.Finishing.{after_told, after_batch, finished_by_columns};
 
-use crate::begun::BegunRecord;
+use crate::begun_record::BegunRecord;
 use crate::learned::Learned;
-use crate::outcomes::finished_by;
+use crate::outcomes::finished_by_columns;
 use metadata::Metadata;
 use model::{Config, Finished};
 use std::alloc::Global;
@@ -32,14 +32,14 @@ pub(crate) fn finish_batch(
     ensures ok { OnOk result (metadata.new ≡ after_batch metadata.old learned.now) }
     ensures finished { let locked = is_locked (after_told metadata.old learned.now) in
         IfOk result (λ finished. finished
-        ≡ finished_by config.now learned.now.columns.items locked metadata.new begun.old.rec) }
+        ≡ finished_by_columns config.now learned.now.columns.items locked metadata.new begun.old.rec) }
     ensures err { OnErr result (metadata.new ≡ metadata.old) }
     ensures kept { OnErr result (begun.new ≡ begun.old) }
 {
     let started = metadata.start_rows(&learned.told, &learned.own)?;
-    let locked = started.was_locked();
+    let locked = started.was_locked_before_last_row();
     let entries = metadata.entries_after(&started);
-    match finished_by(alloc, config, &learned.columns, locked, &entries, begun) {
+    match finished_by_columns(alloc, config, &learned.columns, locked, &entries, begun) {
         Ok(finished) => {
             metadata.finish_rows(started);
             Ok(finished)

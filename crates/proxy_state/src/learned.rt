@@ -3,10 +3,10 @@
 ghost use Rattle.std.specs.Prelude.{◌≡◌, IfOk};
 ghost use Rattle.model.specs.Journal.{journal_row};
 ghost use Rattle.model.specs.Finishing.{rows_by_replies};
-ghost use Rattle.proxy_state.specs.Learning.{columns_of, by_columns};
+ghost use Rattle.proxy_state.specs.Learning.{columns_of_replies, by_columns};
 
-use crate::begun::BegunRecord;
-use crate::columns::columns_of;
+use crate::begun_record::BegunRecord;
+use crate::columns::columns_of_replies;
 use crate::own_row::own_row;
 use crate::rows_by_replies::rows_by_replies;
 use model::{Config, JournalRow, Reply, Verdict};
@@ -37,10 +37,15 @@ impl Learned {
         ensures own { IfOk result (λ learned.
             learned.own ≡ journal_row config.now (by_columns learned.columns.items) begun.now.rec) }
         ensures columns { IfOk result (λ learned. learned.columns.items
-            ≡ columns_of config.now.resolvers begun.now.asked replies.now) }
+            ≡ columns_of_replies config.now.resolvers begun.now.asked replies.now) }
     {
         let told = rows_by_replies(alloc, config.resolvers(), replies)?;
-        let columns = columns_of(alloc, config.resolvers(), begun.asked.as_slice(), replies)?;
+        let columns = columns_of_replies(
+            alloc,
+            config.resolvers(),
+            begun.asked.as_slice(),
+            replies,
+        )?;
         let own = own_row(alloc, config, &columns, &begun.rec)?;
         Ok(Learned { told, own, columns })
     }

@@ -4,7 +4,7 @@
 //! profile (the refusals).
 #![tactic(auto)]
 
-mod begun;
+mod begun_record;
 mod columns;
 mod disagreements;
 mod finishing;
@@ -14,8 +14,8 @@ mod moving;
 mod outcomes;
 mod own_row;
 mod owned_moves;
-mod owners;
 mod proxy;
+mod proxy_owners;
 mod refusal;
 mod replies;
 mod rows_by_replies;

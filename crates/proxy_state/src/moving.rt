@@ -1,11 +1,11 @@
-//! A proxy's map of owners: the moves of a record are made in it, and it forgets.
+//! Making the moves of a record in a proxy's map of owners, and keeping that map.
 
 ghost use Rattle.std.specs.Prelude.{◌≡◌, [], ◌∷◌, drop, None, OnOk};
 ghost use Rattle.dated_owners.specs.Refusals.{move_fault};
 ghost use Rattle.proxy_state.specs.Beginning.{MayGain, HasGained};
 ghost use Rattle.proxy_state.specs.Beginning.{IsMapFor, IsKeptFor};
 
-use crate::owners::ProxyOwners;
+use crate::proxy_owners::ProxyOwners;
 use dated_owners::OwnerMap;
 use model::{Config, Move};
 use request_builder::{Moves, Record};
@@ -38,7 +38,7 @@ fn make_move(owners: &mut OwnerMap, one: &Move) -> Result<(), OutOfMemory>
 }
 
 /// Makes all moves in the map, one after another. They were made before, in another map.
-pub(crate) fn make_again(owners: &mut OwnerMap, moves: &Moves) -> Result<(), OutOfMemory>
+pub(crate) fn remake_moves(owners: &mut OwnerMap, moves: &Moves) -> Result<(), OutOfMemory>
     ensures { OnOk result (HasGained owners.old moves.now owners.new) }
 {
     for place in 0..moves.len() {
@@ -73,5 +73,5 @@ pub(crate) fn keep_map(
     requires { IsKeptFor config.now rec.now owners.old map moves }
     ensures { IsMapFor config.now rec.now owners.new }
 {
-    owners.fill(map, moves, rec.previous().saturating_sub(config.window()));
+    owners.replace_map(map, moves, rec.previous().saturating_sub(config.window()));
 }

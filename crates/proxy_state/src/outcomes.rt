@@ -5,16 +5,17 @@
 
 ghost use Rattle.std.specs.Prelude.{◌≡◌, ◌+◌, ◌≤◌, ◌++◌, map, take, drop, length};
 ghost use Rattle.std.specs.Prelude.{IfOk, OnOk, OnErr};
-ghost use Rattle.model.specs.Outcomes.{outcome_by, is_refused, outcomes_from};
+ghost use Rattle.model.specs.Outcomes.{outcome_of_verdict, is_refused, outcomes_from};
 ghost use Rattle.model.specs.World.{tagged_all, tagged_from};
 ghost use Rattle.proxy_state.specs.Learning.{by_columns, AskedAreKept};
-ghost use Rattle.proxy_state.specs.Finishing.{outcome_asked, outcomes_by, finished_by};
-ghost use Rattle.proxy_state.specs.TakenChanges.{no_change, without_change, with_changes};
-ghost use Rattle.proxy_state.specs.TakenChanges.{changes_if, changes_of};
+ghost use Rattle.proxy_state.specs.Finishing.{outcome_of_transaction, outcomes_by_columns};
+ghost use Rattle.proxy_state.specs.Finishing.{finished_by_columns};
+ghost use Rattle.proxy_state.specs.TakenChanges.{placeholder_change, without_change, with_changes};
+ghost use Rattle.proxy_state.specs.TakenChanges.{changes_if_committed, changes_of};
 
-use crate::begun::BegunRecord;
-use crate::columns::joined_verdict_by;
-use metadata::{EntryView, private_of, tags_of};
+use crate::begun_record::BegunRecord;
+use crate::columns::joined_verdict_in_columns;
+use metadata::{EntryView, find_private_copy, tags_of};
 use model::{
     Config, Finished, Outcome, ResolverNumber, Tagged, TransactionNumber, Verdict, Version,
 };
@@ -25,7 +26,7 @@ use system_keys::{Bytes, Change, Items, OutOfMemory};
 /// The finished batch of the record, by the verdicts of the columns. `locked` is the lock before the
 /// batch, and `entries` are those of the metadata after it. The changes are taken out of the record.
 /// Fails only with `OutOfMemory`; the record is then unchanged.
-pub(crate) fn finished_by(
+pub(crate) fn finished_by_columns(
     alloc: Global,
     config: &Config,
     columns: &[Items<Verdict>],
@@ -35,11 +36,11 @@ pub(crate) fn finished_by(
 ) -> Result<Finished, OutOfMemory>
     requires { AskedAreKept config.now begun.old }
     ensures ok { IfOk result (λ finished.
-        finished ≡ finished_by config.now columns.now locked entries.now begun.old.rec) }
+        finished ≡ finished_by_columns config.now columns.now locked entries.now begun.old.rec) }
     ensures err { OnErr result (begun.new ≡ begun.old) }
 {
-    let outcomes = outcomes_of(alloc, config, columns, locked, begun)?;
-    let mut tagged = label_all(alloc, entries, begun.rec.batch(), &outcomes)?;
+    let outcomes = outcomes_of_record(alloc, config, columns, locked, begun)?;
+    let mut tagged = tag_committed_mutations(alloc, entries, begun.rec.batch(), &outcomes)?;
     let (row, version) = (begun.rec.row(), begun.rec.version());
     let batch = begun.rec.take_batch(alloc)?;
     put_changes(alloc, &mut tagged, batch, &outcomes);
@@ -52,7 +53,7 @@ pub(crate) fn finished_by(
 }
 
 /// The outcome of each transaction of the record.
-fn outcomes_of(
+fn outcomes_of_record(
     alloc: Global,
     config: &Config,
     columns: &[Items<Verdict>],
@@ -66,11 +67,11 @@ fn outcomes_of(
 {
     let lists = begun.asked.as_slice();
     let batch = begun.rec.batch();
-    outcomes_by(alloc, columns, locked, begun.rec.version(), batch, lists)
+    outcomes_by_columns(alloc, columns, locked, begun.rec.version(), batch, lists)
 }
 
 /// The outcome of each transaction; beside it stands the list of the resolvers that it asks.
-fn outcomes_by(
+fn outcomes_by_columns(
     alloc: Global,
     columns: &[Items<Verdict>],
     locked: bool,
@@ -80,19 +81,19 @@ fn outcomes_by(
 ) -> Result<Vec<Outcome>, OutOfMemory>
     requires { length lists.now ≡ length batch.now }
     ensures value { IfOk result (λ outcomes. outcomes.items
-        ≡ outcomes_by columns.now locked version 0 batch.now lists.now) }
+        ≡ outcomes_by_columns columns.now locked version 0 batch.now lists.now) }
     ensures count { IfOk result (λ outcomes. length outcomes.items ≡ length batch.now) }
 {
     let mut outcomes = Vec::with_capacity(alloc, batch.len())?;
     for (number, transaction) in batch.iter().enumerate() {
         let list = &lists[number];
-        outcomes.push(outcome_asked(columns, locked, version, number, transaction, list))?;
+        outcomes.push(outcome_of_transaction(columns, locked, version, number, transaction, list))?;
     }
     Ok(outcomes)
 }
 
 /// The outcome of the transaction, which asks the resolvers of the list.
-fn outcome_asked(
+fn outcome_of_transaction(
     columns: &[Items<Verdict>],
     locked: bool,
     version: Version,
@@ -101,10 +102,10 @@ fn outcome_asked(
     list: &Items<ResolverNumber>,
 ) -> Outcome
     ensures { result
-        ≡ outcome_asked columns.now locked version number transaction.now list.now }
+        ≡ outcome_of_transaction columns.now locked version number transaction.now list.now }
 {
-    let verdict = joined_verdict_by(columns, list.as_slice(), number);
-    outcome_by(verdict, is_refused(locked, transaction), version, number)
+    let verdict = joined_verdict_in_columns(columns, list.as_slice(), number);
+    outcome_of_verdict(verdict, is_refused(locked, transaction), version, number)
 }
 
 /// Whether the lock refuses the transaction.
@@ -115,13 +116,13 @@ fn is_refused(locked: bool, transaction: &Stamped) -> bool
 }
 
 /// The outcome of a transaction by its joined verdict, and by whether the lock refuses it.
-fn outcome_by(
+fn outcome_of_verdict(
     verdict: Verdict,
     refused: bool,
     version: Version,
     number: TransactionNumber,
 ) -> Outcome
-    ensures { result ≡ outcome_by verdict refused version number }
+    ensures { result ≡ outcome_of_verdict verdict refused version number }
 {
     match verdict {
         Verdict::Conflict => Outcome::Conflict,
@@ -139,7 +140,7 @@ fn outcome_by(
 /// The mutations of the committed transactions, each with its tags and its private copy, but without
 /// its change.
 #[tactic(auto, using(crate::proofs::TakenChanges::labels_append))]
-fn label_all(
+fn tag_committed_mutations(
     alloc: Global,
     entries: &EntryView,
     batch: &[Stamped],
@@ -152,7 +153,7 @@ fn label_all(
     let mut labelled = Vec::new(alloc);
     for (place, transaction) in batch.iter().enumerate() {
         if let Outcome::Committed { version: _, number } = outcomes[place] {
-            add_labelled(alloc, entries, number, transaction.changes(), &mut labelled)?;
+            add_tagged_mutations(alloc, entries, number, transaction.changes(), &mut labelled)?;
         }
     }
     Ok(labelled)
@@ -160,7 +161,7 @@ fn label_all(
 
 /// Adds the mutations of the transaction of this number, each with its tags and its private copy, but
 /// without its change.
-fn add_labelled(
+fn add_tagged_mutations(
     alloc: Global,
     entries: &EntryView,
     number: TransactionNumber,
@@ -174,17 +175,17 @@ fn add_labelled(
         labelled.push(Tagged {
             number,
             place,
-            change: no_change(alloc),
+            change: placeholder_change(alloc),
             tags: tags_of(entries, change)?,
-            private: private_of(entries, change)?,
+            private: find_private_copy(entries, change)?,
         })?;
     }
     Ok(())
 }
 
 /// What stands in the place of a change until it is put in. Does not allocate.
-fn no_change(alloc: Global) -> Change
-    ensures { result ≡ no_change }
+fn placeholder_change(alloc: Global) -> Change
+    ensures { result ≡ placeholder_change }
 {
     Change::Set {
         key: Bytes::from(Vec::new(alloc)),
@@ -201,15 +202,15 @@ fn put_changes(alloc: Global, tagged: &mut Vec<Tagged>, batch: Items<Stamped>, o
     let mut number = 0;
     let mut first = 0;
     for transaction in Vec::from(batch) {
-        let changes = changes_if(alloc, transaction, &outcomes[number]);
-        first = put_each(tagged, first, changes);
+        let changes = changes_if_committed(alloc, transaction, &outcomes[number]);
+        first = put_changes_from(tagged, first, changes);
         number += 1;
     }
 }
 
 /// The changes of the transaction, if it is committed, and otherwise none. Does not allocate.
-fn changes_if(alloc: Global, transaction: Stamped, outcome: &Outcome) -> Items<Change>
-    ensures { result ≡ changes_if transaction outcome.now }
+fn changes_if_committed(alloc: Global, transaction: Stamped, outcome: &Outcome) -> Items<Change>
+    ensures { result ≡ changes_if_committed transaction outcome.now }
 {
     match outcome {
         Outcome::Committed { .. } => transaction.into_changes(),
@@ -219,7 +220,7 @@ fn changes_if(alloc: Global, transaction: Stamped, outcome: &Outcome) -> Items<C
 
 /// Puts the changes into the mutations from this one on, and returns how many have theirs then. Does
 /// not allocate.
-fn put_each(tagged: &mut Vec<Tagged>, first: usize, changes: Items<Change>) -> usize
+fn put_changes_from(tagged: &mut Vec<Tagged>, first: usize, changes: Items<Change>) -> usize
     requires { first + length changes ≤ length tagged.old.items }
     ensures place { result ≡ first + length changes }
     ensures count { length tagged.new.items ≡ length tagged.old.items }

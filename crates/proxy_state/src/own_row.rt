@@ -7,12 +7,12 @@ ghost use Rattle.std.specs.Prelude.{◌≡◌, IfOk};
 ghost use Rattle.model.specs.Journal.{journal_row, states_from, state_of};
 ghost use Rattle.proxy_state.specs.Learning.{by_columns};
 
-use crate::columns::verdicts_by;
+use crate::columns::verdicts_in_columns;
 use model::{Config, JournalRow, StateTxn, TransactionNumber, Verdict};
 use mutation::Stamped;
 use request_builder::Record;
 use std::alloc::Global;
-use system_keys::{Items, OutOfMemory};
+use system_keys::{Items, OutOfMemory, SharedItems};
 
 /// The journal row of the record, by the verdicts of the columns. Fails only with `OutOfMemory`.
 #[tactic(auto, unfolding(model::specs::Journal::journal_row))]
@@ -63,9 +63,9 @@ fn own_state(
     ensures { IfOk result (λ state. state
         ≡ state_of config.now (by_columns columns.now) _rec.now number transaction.now) }
 {
-    let verdicts = verdicts_by(alloc, config.resolvers(), columns, number)?;
+    let verdicts = verdicts_in_columns(alloc, config.resolvers(), columns, number)?;
     Ok(StateTxn {
-        mutations: transaction.state_mutations(alloc)?,
+        mutations: SharedItems::new(alloc, transaction.state_mutations(alloc)?)?,
         lock_aware: transaction.lock_aware(),
         verdicts: Items::from(verdicts),
     })

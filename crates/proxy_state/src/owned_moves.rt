@@ -1,4 +1,4 @@
-//! All moves so far, and a map of owners that asks as they do.
+//! The list of all moves, with a map of owners that proxies share.
 
 ghost use Rattle.std.specs.Prelude.{◌≡◌, ◌++◌, ◌∷◌, [], IfOk, OnOk, OnErr, IfSome};
 ghost use Rattle.proxy_state.specs.HeldMaps.{AsksBackTo, AsksAfterMove};
@@ -61,7 +61,7 @@ impl OwnedMoves {
         ensures err { OnErr result (self.new ≡ self.old) }
     {
         let oldest = one.date.saturating_sub(self.window).saturating_sub(1);
-        let map = with_move(self.map.take(), &one, oldest);
+        let map = map_with_move(self.map.take(), &one, oldest);
         self.moves.push(one)?;
         self.map = map;
         Ok(())
@@ -86,7 +86,7 @@ impl OwnedMoves {
 
 /// The map with one move more, in which it forgets back to `oldest` and merges; None if there is no map,
 /// or if the move cannot be made.
-fn with_move(map: Option<OwnerMap>, one: &Move, oldest: Version) -> Option<OwnerMap>
+fn map_with_move(map: Option<OwnerMap>, one: &Move, oldest: Version) -> Option<OwnerMap>
     ensures { AsksAfterMove map one.now result }
 {
     let Some(map) = map else {

@@ -13,13 +13,13 @@ ghost use Rattle.proxy_state.specs.Beginning.{refusal_fault, begin_fault, reques
 ghost use Rattle.proxy_state.specs.Beginning.{HasMapFor, AsksFor, IsFirst, has_row_up_to};
 ghost use Rattle.proxy_state.specs.Finishing.{finish_fault, IsReplied, IsLearned};
 
-use crate::begun::BegunRecord;
+use crate::begun_record::BegunRecord;
 use crate::disagreements::{first_disagreement, first_unreplied};
 use crate::finishing::finish_batch;
 use crate::learned::Learned;
 use crate::moving::keep_map;
 use crate::owned_moves::OwnedMoves;
-use crate::owners::ProxyOwners;
+use crate::proxy_owners::ProxyOwners;
 use crate::refusal::Refusal;
 use crate::replies::Replies;
 use dated_owners::OwnerMap;
@@ -173,7 +173,7 @@ impl Proxy {
         ensures begun { OnOk result (HasBegun self.old self.new rec.now) }
         ensures err { OnErr result (self.new ≡ self.old) }
     {
-        self.begin_by(rec, None)
+        self.begin_by_map(rec, None)
     }
 
     /// Begins a record of this proxy as [`Proxy::begin`] does, by the map of owners that these moves
@@ -193,11 +193,11 @@ impl Proxy {
     {
         let oldest = rec.previous().saturating_sub(self.config.window());
         let resolvers = self.config.resolvers();
-        self.begin_by(rec, owned.map_back_to(resolvers, oldest))
+        self.begin_by_map(rec, owned.map_back_to(resolvers, oldest))
     }
 
     /// Begins a record of this proxy by the map that proxies share, if there is one.
-    fn begin_by(&mut self, rec: &Record, shared: Option<&OwnerMap>) -> Result<Requests, Refusal>
+    fn begin_by_map(&mut self, rec: &Record, shared: Option<&OwnerMap>) -> Result<Requests, Refusal>
         requires may { MayBegin self.old rec.now }
         requires shared { IfSome shared (λ map. AsksFor self.old.config rec.now map.now) }
         ensures ok { OnOk result (begin_fault self.old rec.now ≡ None) }
@@ -230,8 +230,8 @@ impl Proxy {
         Ok(requests)
     }
 
-    /// The requests for the record, by the map that proxies share, or by the proxy's own, which then
-    /// is beside them, with the moves of the record.
+    /// Returns the requests for the record, made by the shared map if there is one. Otherwise
+    /// makes the record's moves in the proxy's own map, and returns that map too.
     #[tactic(auto, using(crate::proofs::KeptProxies::in_order_for, crate::proofs::KeptProxies::in_order_own))]
     fn requests_and_map(
         &mut self,
@@ -249,10 +249,10 @@ impl Proxy {
         ensures same { self.new ≡ self.old }
     {
         match shared {
-            Some(map) => Ok((self.requests_by(map, rec)?, None)),
+            Some(map) => Ok((self.requests_by_map(map, rec)?, None)),
             None => {
                 let map = self.map_with_moves(rec)?;
-                Ok((self.requests_by(&map, rec)?, Some(map)))
+                Ok((self.requests_by_map(&map, rec)?, Some(map)))
             }
         }
     }
@@ -271,7 +271,7 @@ impl Proxy {
 
     /// The requests for the record by this map of owners.
     #[tactic(auto, using(crate::proofs::KeptProxies::greatest))]
-    fn requests_by(&self, owners: &OwnerMap, rec: &Record) -> Result<Requests, OutOfMemory>
+    fn requests_by_map(&self, owners: &OwnerMap, rec: &Record) -> Result<Requests, OutOfMemory>
         requires { AsksFor self.now.config rec.now owners.now }
         ensures requests { IfOk result (λ built. built.requests ≡ requests_for self.now rec.now) }
         ensures asked { IfOk result (λ built.
@@ -301,14 +301,14 @@ impl Proxy {
         ensures back { IfErr result (λ refused. refused.1 ≡ replies) }
         ensures err { OnErr result (self.new ≡ self.old) }
     {
-        match self.finish_by(replies.places()) {
+        match self.finish_by_replies(replies.places()) {
             Ok(finished) => Ok(finished),
             Err(refusal) => Err((refusal, replies)),
         }
     }
 
     #[tactic(auto, using(crate::proofs::FinishedProxies::set_back))]
-    fn finish_by(&mut self, replies: &[Option<Reply>]) -> Result<Finished, Refusal>
+    fn finish_by_replies(&mut self, replies: &[Option<Reply>]) -> Result<Finished, Refusal>
         ensures ok { OnOk result (finish_fault self.old replies.now ≡ None) }
         ensures finished { IfOk result (λ finished.
             HasFinished self.old self.new replies.now finished) }
@@ -317,7 +317,7 @@ impl Proxy {
         ensures err { OnErr result (self.new ≡ self.old) }
     {
         let alloc: Global = *self.journal.allocator();
-        let mut learned = self.learn(replies)?;
+        let mut learned = self.learn_from_replies(replies)?;
         let Ok(()) = self.journal.reserve(learned.told.len() + 1) else {
             return Err(Refusal::OutOfMemory);
         };
@@ -332,7 +332,7 @@ impl Proxy {
     }
 
     /// What the proxy learns from the replies to its earliest record, if it may finish it by them.
-    fn learn(&self, replies: &[Option<Reply>]) -> Result<Learned, Refusal>
+    fn learn_from_replies(&self, replies: &[Option<Reply>]) -> Result<Learned, Refusal>
         ensures fault { let fault = finish_fault self.now replies.now in
             MatchResult result (λ learned. fault ≡ None) (λ refusal. fault ≡ refusal_fault refusal) }
         ensures learned { IfOk result (λ learned. IsLearned self.now replies.now learned) }
@@ -362,7 +362,7 @@ impl Proxy {
         }
     }
 
-    /// Returns a deep copy. Fails only with `OutOfMemory`.
+    /// Returns an equal copy. Fails only with `OutOfMemory`.
     pub fn copy(&self) -> Result<Proxy, OutOfMemory>
         ensures { IfOk result (λ copy. copy ≡ self.now) }
     {

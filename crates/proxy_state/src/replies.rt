@@ -63,7 +63,7 @@ impl Replies {
         Ok(())
     }
 
-    /// Returns a deep copy. Fails only with `OutOfMemory`.
+    /// Returns an equal copy. Fails only with `OutOfMemory`.
     pub fn copy(&self) -> Result<Replies, OutOfMemory>
         ensures { IfOk result (λ copy. copy ≡ self.now) }
     {

@@ -5,7 +5,8 @@
 ghost use Rattle.std.specs.Prelude.{◌≡◌, map, IfOk};
 ghost use Rattle.model.specs.Shares.{each_below};
 ghost use Rattle.model.specs.Finishing.{reply_from, row_from, unseen_of_reply, verdict_in_row};
-ghost use Rattle.model.specs.Finishing.{content_of, state_by_replies, row_by_replies, rows_by_replies};
+ghost use Rattle.model.specs.Finishing.{copy_content, state_by_replies, row_by_replies};
+ghost use Rattle.model.specs.Finishing.{rows_by_replies};
 
 use crate::disagreements::{reply_from, row_from};
 use model::{
@@ -13,7 +14,7 @@ use model::{
     UnseenState, Verdict,
 };
 use std::alloc::Global;
-use system_keys::{Items, OutOfMemory};
+use system_keys::{Items, OutOfMemory, SharedItems};
 
 /// The rows that the replies tell: versions and contents by resolver 0, and the verdicts of all
 /// resolvers. Fails only with `OutOfMemory`.
@@ -24,8 +25,9 @@ pub(crate) fn rows_by_replies(
 ) -> Result<Vec<JournalRow>, OutOfMemory>
     ensures { IfOk result (λ rows. rows.items ≡ rows_by_replies resolvers replies.now) }
 {
-    let mut rows = Vec::new(alloc);
-    for (place, row) in unseen_rows(replies, 0).iter().enumerate() {
+    let unseen = unseen_rows(replies, 0);
+    let mut rows = Vec::with_capacity(alloc, unseen.len())?;
+    for (place, row) in unseen.iter().enumerate() {
         rows.push(row_by_replies(alloc, resolvers, replies, place, row)?)?;
     }
     Ok(rows)
@@ -74,7 +76,7 @@ fn state_by_replies(
     ensures { IfOk result (λ told.
         told ≡ state_by_replies resolvers replies.now place number state.now) }
 {
-    let content = content_of(alloc, state)?;
+    let content = copy_content(alloc, state)?;
     let verdicts = verdicts_by_replies(alloc, resolvers, replies, place, number)?;
     Ok(StateTxn {
         mutations: content.mutations,
@@ -84,13 +86,13 @@ fn state_by_replies(
 }
 
 /// A copy of the content of a state transaction, or nothing if it has none.
-fn content_of(alloc: Global, state: &UnseenState) -> Result<Carried, OutOfMemory>
-    ensures { IfOk result (λ content. content ≡ content_of state.now) }
+fn copy_content(alloc: Global, state: &UnseenState) -> Result<Carried, OutOfMemory>
+    ensures { IfOk result (λ content. content ≡ copy_content state.now) }
 {
     match &state.carried {
         Some(carried) => carried.copy(),
         None => Ok(Carried {
-            mutations: Items::from(Vec::new(alloc)),
+            mutations: SharedItems::new(alloc, Items::from(Vec::new(alloc)))?,
             lock_aware: false,
         }),
     }

@@ -14,7 +14,7 @@ use Rattle.model.specs.Shares.{each_below, read_bound, part_back_to, asks_back_t
 use Rattle.model.specs.Requests.{marks_from}
 use Rattle.model.specs.OwnerMaps.{OwnerMapView}
 use Rattle.dated_owners.proofs.FlagLaws.{filter_below, in_filter}
-use Rattle.request_builder.specs.AskedResolvers.{reader_lists, asked_resolvers_of, is_in_some, ranges_for, part_by, is_part_sent, sent_part, parts_by, mark_by, marks_by, is_asked_by, asked_by}
+use Rattle.request_builder.specs.AskedResolvers.{reader_lists, asked_resolvers_of, is_in_some, ranges_for, part_for, is_part_sent, sent_part, parts_for, mark_by, marks_for, is_asked_by, asked_by}
 
 -- ---- the lists of some ranges
 
@@ -52,17 +52,17 @@ lock_ranges : (map_of : OwnerMapView) (moves : List Move) (snapshot r : ℕ) (b 
 lock_ranges map_of moves snapshot r true = refl
 lock_ranges map_of moves snapshot r false = refl
 
-reads_are : (map_of : OwnerMapView) (rec : Record) (r n : ℕ) (t : StampedTransaction) → r < map_of.resolvers → (part_by r n t (asked_resolvers_of map_of rec.moves t)).reads ≡ filter (asks_read rec.moves (read_bound map_of.oldest t) r) (all_reads t)
+reads_are : (map_of : OwnerMapView) (rec : Record) (r n : ℕ) (t : StampedTransaction) → r < map_of.resolvers → (part_for r n t (asked_resolvers_of map_of rec.moves t)).reads ≡ filter (asks_read rec.moves (read_bound map_of.oldest t) r) (all_reads t)
 reads_are map_of rec r n t below =
     let p = λ (s : ℕ) (range : Range). asks_read rec.moves (read_bound map_of.oldest t) s range in
     let b = is_state_transaction t && not t.lock_aware in
     ap₂ (λ (xs ys : List Range). xs ++ ys) (ranges_for_filter p r map_of.resolvers t.reads below) (lock_ranges map_of rec.moves t.snapshot r b ∙ ranges_for_filter p r map_of.resolvers (lock_read b) below)
     ∙ sym (filter-append (p r) t.reads (lock_read b))
 
-writes_are : (map_of : OwnerMapView) (rec : Record) (r n : ℕ) (t : StampedTransaction) → r < map_of.resolvers → (part_by r n t (asked_resolvers_of map_of rec.moves t)).writes ≡ filter (asks_write rec.moves r) t.writes
+writes_are : (map_of : OwnerMapView) (rec : Record) (r n : ℕ) (t : StampedTransaction) → r < map_of.resolvers → (part_for r n t (asked_resolvers_of map_of rec.moves t)).writes ≡ filter (asks_write rec.moves r) t.writes
 writes_are map_of rec r n t below = ranges_for_filter (λ (s : ℕ) (range : Range). asks_write rec.moves s range) r map_of.resolvers t.writes below
 
-part_is : (map_of : OwnerMapView) (rec : Record) (r n : ℕ) (t : StampedTransaction) → r < map_of.resolvers → part_by r n t (asked_resolvers_of map_of rec.moves t) ≡ part_back_to map_of.oldest rec r n t
+part_is : (map_of : OwnerMapView) (rec : Record) (r n : ℕ) (t : StampedTransaction) → r < map_of.resolvers → part_for r n t (asked_resolvers_of map_of rec.moves t) ≡ part_back_to map_of.oldest rec r n t
 part_is map_of rec r n t below =
     ap₂ (λ (reads writes : List Range). record { number = n; snapshot = t.snapshot; reads = reads; writes = writes }) (reads_are map_of rec r n t below) (writes_are map_of rec r n t below)
 
@@ -82,14 +82,14 @@ sent_is map_of rec r n t =
 
 -- ---- all transactions
 
-pub parts_are : (map_of : OwnerMapView) (rec : Record) (r n : ℕ) (ts : List StampedTransaction) → r < map_of.resolvers → parts_by r n ts (map (asked_resolvers_of map_of rec.moves) ts) ≡ parts_back_to map_of.oldest rec r n ts
+pub parts_are : (map_of : OwnerMapView) (rec : Record) (r n : ℕ) (ts : List StampedTransaction) → r < map_of.resolvers → parts_for r n ts (map (asked_resolvers_of map_of rec.moves) ts) ≡ parts_back_to map_of.oldest rec r n ts
 parts_are map_of rec r n [] below = refl
 parts_are map_of rec r n (t ∷ ts) below =
     ap₂ (λ (part : Part) (rest : List Part). sent_part (is_state_transaction t) part ++ rest) (part_is map_of rec r n t below) (parts_are map_of rec r (suc n) ts below)
     ∙ ap (λ (b : Bool). cond b (part_back_to map_of.oldest rec r n t ∷ []) [] ++ parts_back_to map_of.oldest rec r (suc n) ts) (sent_is map_of rec r n t)
     ∙ cond_cons (asks_back_to map_of.oldest rec r t) (part_back_to map_of.oldest rec r n t) (parts_back_to map_of.oldest rec r (suc n) ts)
 
-pub marks_are : (map_of : OwnerMapView) (moves : List Move) (r n : ℕ) (ts : List StampedTransaction) → marks_by r n ts (map (asked_resolvers_of map_of moves) ts) ≡ marks_from r n ts
+pub marks_are : (map_of : OwnerMapView) (moves : List Move) (r n : ℕ) (ts : List StampedTransaction) → marks_for r n ts (map (asked_resolvers_of map_of moves) ts) ≡ marks_from r n ts
 marks_are map_of moves r n [] = refl
 marks_are map_of moves r n (t ∷ ts) =
     ap (λ rest. mark_by r n t (asked_resolvers_of map_of moves t) ++ rest) (marks_are map_of moves r (suc n) ts)

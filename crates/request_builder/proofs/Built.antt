@@ -9,12 +9,12 @@ use Rattle.model.specs.Shares.{each_below, share_back_to, asked_back_to}
 use Rattle.model.specs.Requests.{request_back_to}
 use Rattle.model.specs.OwnerMaps.{OwnerMapView, AsksAs}
 use Rattle.request_builder.specs.declared.asked_resolvers.AskedResolvers.{AskedResolvers}
-use Rattle.request_builder.specs.AskedResolvers.{asked_resolvers_of, back_to, AreAllAskedResolvers, request_by, asked_by}
+use Rattle.request_builder.specs.AskedResolvers.{asked_resolvers_of, back_to, AreAllAskedResolvers, request_for_resolver, asked_by}
 use Rattle.request_builder.proofs.AskedLists.{parts_are, marks_are, asked_are}
 
 -- ---- the requests
 
-request_is : (map_of : OwnerMapView) (rec : Record) (last_received r : ℕ) → r < map_of.resolvers → request_by rec last_received (map (asked_resolvers_of map_of rec.moves) rec.batch) r ≡ request_back_to map_of.oldest rec last_received r
+request_is : (map_of : OwnerMapView) (rec : Record) (last_received r : ℕ) → r < map_of.resolvers → request_for_resolver rec last_received (map (asked_resolvers_of map_of rec.moves) rec.batch) r ≡ request_back_to map_of.oldest rec last_received r
 unfolding request_back_to share_back_to
 request_is map_of rec last_received r below =
     ap₂ (λ (share : List Part) (states : List StateMark). record { resolver = r; proxy = rec.proxy; row = rec.row; previous = rec.previous; version = rec.version; last_received = last_received; share = share; states = states })
@@ -29,11 +29,11 @@ map_below {X} f g (suc n) same =
     ∙ sym (map-append g (each_below n) (n ∷ []))
 
 pub requests_are : (map_of : OwnerMapView) (oldest : ℕ) (rec : Record) (last_received : ℕ) (askings : List AskedResolvers) → AsksAs map_of rec.moves → AreAllAskedResolvers oldest map_of rec.batch askings
-    → map (request_by rec last_received askings) (each_below map_of.resolvers) ≡ map (request_back_to (back_to oldest map_of).oldest rec last_received) (each_below map_of.resolvers)
+    → map (request_for_resolver rec last_received askings) (each_below map_of.resolvers) ≡ map (request_back_to (back_to oldest map_of).oldest rec last_received) (each_below map_of.resolvers)
 requests_are map_of oldest rec last_received askings asks asked =
     let far = back_to oldest map_of in
-    ap (λ (list : List AskedResolvers). map (request_by rec last_received list) (each_below map_of.resolvers)) (asked rec.moves asks)
-    ∙ map_below (request_by rec last_received (map (asked_resolvers_of far rec.moves) rec.batch)) (request_back_to far.oldest rec last_received) far.resolvers (request_is far rec last_received)
+    ap (λ (list : List AskedResolvers). map (request_for_resolver rec last_received list) (each_below map_of.resolvers)) (asked rec.moves asks)
+    ∙ map_below (request_for_resolver rec last_received (map (asked_resolvers_of far rec.moves) rec.batch)) (request_back_to far.oldest rec last_received) far.resolvers (request_is far rec last_received)
 
 -- ---- the asked lists
 

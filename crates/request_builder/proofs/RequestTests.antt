@@ -9,20 +9,20 @@ use Rattle.model.specs.declared.part.Part.{Part}
 use Rattle.model.specs.declared.unseen.StateMark.{StateMark}
 use Rattle.model.specs.Requests.{Request}
 use Rattle.model.specs.RequestRules.{NumbersRise, part_numbers, KeepsRequestRule}
-use Rattle.request_builder.specs.Requests.{numbers_rise, names_part, is_carried_to}
+use Rattle.request_builder.specs.Requests.{part_numbers_rise, mark_names_part, mark_fits_resolver}
 
 -- ---- the numbers rise
 
-pub rise_from : (least : ℕ) (parts : List Part) → numbers_rise least parts ≡ true → NumbersRise least parts
+pub rise_from : (least : ℕ) (parts : List Part) → part_numbers_rise least parts ≡ true → NumbersRise least parts
 rise_from least [] h = tt
 rise_from least (part ∷ parts) h =
-    let both = and_parts (nat_le least part.number) (numbers_rise (suc part.number) parts) h in
+    let both = and_parts (nat_le least part.number) (part_numbers_rise (suc part.number) parts) h in
     (leb-true least part.number both.0, rise_from (suc part.number) parts both.1)
 
-rise_test : (least : ℕ) (parts : List Part) → NumbersRise least parts → numbers_rise least parts ≡ true
+rise_test : (least : ℕ) (parts : List Part) → NumbersRise least parts → part_numbers_rise least parts ≡ true
 rise_test least [] h = refl
 rise_test least (part ∷ parts) h =
-    and_from (nat_le least part.number) (numbers_rise (suc part.number) parts) (le-leb least part.number h.0) (rise_test (suc part.number) parts h.1)
+    and_from (nat_le least part.number) (part_numbers_rise (suc part.number) parts) (le-leb least part.number h.0) (rise_test (suc part.number) parts h.1)
 
 -- ---- the mark names a part
 
@@ -51,7 +51,7 @@ named_test (part ∷ parts) n at = by (nat_eq part.number n) refl (named_test pa
 
 -- ---- the marks have their content
 
-carried_from : (resolver : ℕ) (mark : StateMark) → is_carried_to resolver mark ≡ true → is_some mark.carried ≡ nat_eq resolver 0
+carried_from : (resolver : ℕ) (mark : StateMark) → mark_fits_resolver resolver mark ≡ true → is_some mark.carried ≡ nat_eq resolver 0
 carried_from resolver mark h = by (nat_eq resolver 0) (is_some mark.carried) h
   where
     by : (zero_is some : Bool) → cond zero_is some (not some) ≡ true → some ≡ zero_is
@@ -60,7 +60,7 @@ carried_from resolver mark h = by (nat_eq resolver 0) (is_some mark.carried) h
     by false true e = sym e
     by false false e = refl
 
-carried_test : (resolver : ℕ) (mark : StateMark) → is_some mark.carried ≡ nat_eq resolver 0 → is_carried_to resolver mark ≡ true
+carried_test : (resolver : ℕ) (mark : StateMark) → is_some mark.carried ≡ nat_eq resolver 0 → mark_fits_resolver resolver mark ≡ true
 carried_test resolver mark h = by (nat_eq resolver 0) (is_some mark.carried) h
   where
     by : (zero_is some : Bool) → some ≡ zero_is → cond zero_is some (not some) ≡ true
@@ -71,19 +71,19 @@ carried_test resolver mark h = by (nat_eq resolver 0) (is_some mark.carried) h
 
 -- ---- all three
 
-pub is_request_from : (q : Request) → numbers_rise 0 q.share ≡ true → list_all (names_part q.share) q.states ≡ true → list_all (is_carried_to q.resolver) q.states ≡ true → KeepsRequestRule q
+pub is_request_from : (q : Request) → part_numbers_rise 0 q.share ≡ true → list_all (mark_names_part q.share) q.states ≡ true → list_all (mark_fits_resolver q.resolver) q.states ≡ true → KeepsRequestRule q
 is_request_from q rise named carried =
     record {
       rising = rise_from 0 q.share rise;
-      named = All-weaker (λ (mark : StateMark). names_part q.share mark ≡ true) (λ (mark : StateMark). Contains (part_numbers q.share) mark.number) (λ (mark : StateMark) h. named_from q.share mark.number h) q.states (AllPass-from_list_all (names_part q.share) q.states named);
-      carried = All-weaker (λ (mark : StateMark). is_carried_to q.resolver mark ≡ true) (λ (mark : StateMark). is_some mark.carried ≡ nat_eq q.resolver 0) (carried_from q.resolver) q.states (AllPass-from_list_all (is_carried_to q.resolver) q.states carried);
+      named = All-weaker (λ (mark : StateMark). mark_names_part q.share mark ≡ true) (λ (mark : StateMark). Contains (part_numbers q.share) mark.number) (λ (mark : StateMark) h. named_from q.share mark.number h) q.states (AllPass-from_list_all (mark_names_part q.share) q.states named);
+      carried = All-weaker (λ (mark : StateMark). mark_fits_resolver q.resolver mark ≡ true) (λ (mark : StateMark). is_some mark.carried ≡ nat_eq q.resolver 0) (carried_from q.resolver) q.states (AllPass-from_list_all (mark_fits_resolver q.resolver) q.states carried);
     }
 
-pub rise_of : (q : Request) → KeepsRequestRule q → numbers_rise 0 q.share ≡ true
+pub rise_of : (q : Request) → KeepsRequestRule q → part_numbers_rise 0 q.share ≡ true
 rise_of q is = rise_test 0 q.share is.rising
 
-pub named_of : (q : Request) → KeepsRequestRule q → list_all (names_part q.share) q.states ≡ true
-named_of q is = list_all-from_AllPass (names_part q.share) q.states (All-weaker (λ (mark : StateMark). Contains (part_numbers q.share) mark.number) (λ (mark : StateMark). names_part q.share mark ≡ true) (λ (mark : StateMark) h. named_test q.share mark.number h) q.states is.named)
+pub named_of : (q : Request) → KeepsRequestRule q → list_all (mark_names_part q.share) q.states ≡ true
+named_of q is = list_all-from_AllPass (mark_names_part q.share) q.states (All-weaker (λ (mark : StateMark). Contains (part_numbers q.share) mark.number) (λ (mark : StateMark). mark_names_part q.share mark ≡ true) (λ (mark : StateMark) h. named_test q.share mark.number h) q.states is.named)
 
-pub carried_of : (q : Request) → KeepsRequestRule q → list_all (is_carried_to q.resolver) q.states ≡ true
-carried_of q is = list_all-from_AllPass (is_carried_to q.resolver) q.states (All-weaker (λ (mark : StateMark). is_some mark.carried ≡ nat_eq q.resolver 0) (λ (mark : StateMark). is_carried_to q.resolver mark ≡ true) (carried_test q.resolver) q.states is.carried)
+pub carried_of : (q : Request) → KeepsRequestRule q → list_all (mark_fits_resolver q.resolver) q.states ≡ true
+carried_of q is = list_all-from_AllPass (mark_fits_resolver q.resolver) q.states (All-weaker (λ (mark : StateMark). is_some mark.carried ≡ nat_eq q.resolver 0) (λ (mark : StateMark). mark_fits_resolver q.resolver mark ≡ true) (carried_test q.resolver) q.states is.carried)

@@ -5,7 +5,7 @@ use Rattle.system_keys.specs.Keys.{Range}
 use Rattle.model.specs.Transactions.{StampedTransaction}
 use Rattle.model.specs.Journal.{list_at}
 use Rattle.request_builder.specs.declared.asked_resolvers.AskedResolvers.{AskedResolvers}
-use Rattle.request_builder.specs.AskedResolvers.{is_in, ranges_for, part_by, sent_part, parts_by, mark_by, marks_by}
+use Rattle.request_builder.specs.AskedResolvers.{is_in, ranges_for, part_for, sent_part, parts_for, mark_by, marks_for}
 
 -- the list from i on begins with element i
 next_of : {X : Type 0} (xs : List X) (i : ℕ) (x : X) → i < length xs → x ≡ get_or xs i x → drop i xs ≡ x ∷ drop (suc i) xs
@@ -38,11 +38,11 @@ list_past (x ∷ lists) (suc i) past = list_past lists i (omega arith)
 
 -- ---- transactions
 
-pub parts_at : (r n i : ℕ) (t : StampedTransaction) (asking : AskedResolvers) (ts : List StampedTransaction) (askings : List AskedResolvers) → i < length ts → i < length askings → t ≡ get_or ts i t → asking ≡ get_or askings i asking → parts_by r n (drop i ts) (drop i askings) ≡ sent_part asking.is_state (part_by r n t asking) ++ parts_by r (suc n) (drop (suc i) ts) (drop (suc i) askings)
-parts_at r n i t asking ts askings there asked is asking_is = ap₂ (parts_by r n) (next_of ts i t there is) (next_of askings i asking asked asking_is)
+pub parts_at : (r n i : ℕ) (t : StampedTransaction) (asking : AskedResolvers) (ts : List StampedTransaction) (askings : List AskedResolvers) → i < length ts → i < length askings → t ≡ get_or ts i t → asking ≡ get_or askings i asking → parts_for r n (drop i ts) (drop i askings) ≡ sent_part asking.is_state (part_for r n t asking) ++ parts_for r (suc n) (drop (suc i) ts) (drop (suc i) askings)
+parts_at r n i t asking ts askings there asked is asking_is = ap₂ (parts_for r n) (next_of ts i t there is) (next_of askings i asking asked asking_is)
 
-pub marks_at : (r n i : ℕ) (t : StampedTransaction) (asking : AskedResolvers) (ts : List StampedTransaction) (askings : List AskedResolvers) → i < length ts → i < length askings → t ≡ get_or ts i t → asking ≡ get_or askings i asking → marks_by r n (drop i ts) (drop i askings) ≡ mark_by r n t asking ++ marks_by r (suc n) (drop (suc i) ts) (drop (suc i) askings)
-marks_at r n i t asking ts askings there asked is asking_is = ap₂ (marks_by r n) (next_of ts i t there is) (next_of askings i asking asked asking_is)
+pub marks_at : (r n i : ℕ) (t : StampedTransaction) (asking : AskedResolvers) (ts : List StampedTransaction) (askings : List AskedResolvers) → i < length ts → i < length askings → t ≡ get_or ts i t → asking ≡ get_or askings i asking → marks_for r n (drop i ts) (drop i askings) ≡ mark_by r n t asking ++ marks_for r (suc n) (drop (suc i) ts) (drop (suc i) askings)
+marks_at r n i t asking ts askings there asked is asking_is = ap₂ (marks_for r n) (next_of ts i t there is) (next_of askings i asking asked asking_is)
 
 -- ---- a list that grows by what is taken of the rest
 

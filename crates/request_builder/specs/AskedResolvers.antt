@@ -10,7 +10,7 @@ use Rattle.model.specs.declared.unseen.StateMark.{StateMark}
 use Rattle.model.specs.Transactions.{StampedTransaction, is_state_transaction, locked_key, lock_read}
 use Rattle.model.specs.Records.{Record}
 use Rattle.model.specs.Shares.{each_below}
-use Rattle.model.specs.Journal.{carried_by}
+use Rattle.model.specs.Journal.{carried_to}
 use Rattle.model.specs.Requests.{Request}
 use Rattle.model.specs.OwnerMaps.{OwnerMapView, AsksAs, readers, writers}
 use Rattle.request_builder.specs.declared.asked_resolvers.AskedResolvers.{AskedResolvers}
@@ -93,8 +93,8 @@ ranges_for r (range ∷ ranges) (list ∷ lists) =
     (if is_in r list then range ∷ [] else []) ++ ranges_for r ranges lists
 
 -- the part of transaction t, number n of the batch
-abbrev pub part_by : (r n : ℕ) → StampedTransaction → AskedResolvers → Part
-part_by r n t asking =
+abbrev pub part_for : (r n : ℕ) → StampedTransaction → AskedResolvers → Part
+part_for r n t asking =
     record {
       number = n;
       snapshot = t.snapshot;
@@ -111,27 +111,27 @@ abbrev pub sent_part : (is_state : Bool) → Part → List Part
 sent_part is_state part = if is_part_sent is_state part then part ∷ [] else []
 
 -- the parts of these transactions, numbered from n
-abbrev pub parts_by : (r n : ℕ) → List StampedTransaction → List AskedResolvers → List Part
-parts_by r n [] askings = []
-parts_by r n (t ∷ ts) [] = []
-parts_by r n (t ∷ ts) (asking ∷ askings) =
-    sent_part asking.is_state (part_by r n t asking) ++ parts_by r (suc n) ts askings
+abbrev pub parts_for : (r n : ℕ) → List StampedTransaction → List AskedResolvers → List Part
+parts_for r n [] askings = []
+parts_for r n (t ∷ ts) [] = []
+parts_for r n (t ∷ ts) (asking ∷ askings) =
+    sent_part asking.is_state (part_for r n t asking) ++ parts_for r (suc n) ts askings
 
 -- the mark of a transaction, if it is a state transaction
 abbrev pub mark_by : (r n : ℕ) → StampedTransaction → AskedResolvers → List StateMark
 mark_by r n t asking =
-    if asking.is_state then record { number = n; carried = carried_by r t } ∷ [] else []
+    if asking.is_state then record { number = n; carried = carried_to r t } ∷ [] else []
 
 -- the marks of these transactions, numbered from n
-abbrev pub marks_by : (r n : ℕ) → List StampedTransaction → List AskedResolvers → List StateMark
-marks_by r n [] askings = []
-marks_by r n (t ∷ ts) [] = []
-marks_by r n (t ∷ ts) (asking ∷ askings) =
-    mark_by r n t asking ++ marks_by r (suc n) ts askings
+abbrev pub marks_for : (r n : ℕ) → List StampedTransaction → List AskedResolvers → List StateMark
+marks_for r n [] askings = []
+marks_for r n (t ∷ ts) [] = []
+marks_for r n (t ∷ ts) (asking ∷ askings) =
+    mark_by r n t asking ++ marks_for r (suc n) ts askings
 
 -- the request to resolver r
-abbrev pub request_by : Record → (last_received : ℕ) → List AskedResolvers → (r : ℕ) → Request
-request_by rec last_received askings r =
+abbrev pub request_for_resolver : Record → (last_received : ℕ) → List AskedResolvers → (r : ℕ) → Request
+request_for_resolver rec last_received askings r =
     record {
       resolver = r;
       proxy = rec.proxy;
@@ -139,8 +139,8 @@ request_by rec last_received askings r =
       previous = rec.previous;
       version = rec.version;
       last_received = last_received;
-      share = parts_by r 0 rec.batch askings;
-      states = marks_by r 0 rec.batch askings;
+      share = parts_for r 0 rec.batch askings;
+      states = marks_for r 0 rec.batch askings;
     }
 
 -- ---- the resolvers that get a part

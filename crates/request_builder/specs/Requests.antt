@@ -24,9 +24,9 @@ request_of header share states =
 -- ---- the tests of `KeepsRequestRule`
 
 -- the numbers of the parts rise, and the first is at least `least`
-abbrev pub numbers_rise : (least : ℕ) → List Part → Bool
-numbers_rise least [] = true
-numbers_rise least (part ∷ parts) = nat_le least part.number && numbers_rise (suc part.number) parts
+abbrev pub part_numbers_rise : (least : ℕ) → List Part → Bool
+part_numbers_rise least [] = true
+part_numbers_rise least (part ∷ parts) = nat_le least part.number && part_numbers_rise (suc part.number) parts
 
 -- the least number after the last one, or 0
 abbrev pub least_after : (last : Option ℕ) → ℕ
@@ -34,10 +34,10 @@ least_after None = 0
 least_after (Some n) = suc n
 
 -- the mark names one of the parts
-abbrev pub names_part : List Part → StateMark → Bool
-names_part parts mark = list_any (λ (part : Part). nat_eq part.number mark.number) parts
+abbrev pub mark_names_part : List Part → StateMark → Bool
+mark_names_part parts mark = list_any (λ (part : Part). nat_eq part.number mark.number) parts
 
 -- the mark has the content of its transaction exactly if the resolver is 0
-abbrev pub is_carried_to : (resolver : ℕ) → StateMark → Bool
-is_carried_to resolver mark =
+abbrev pub mark_fits_resolver : (resolver : ℕ) → StateMark → Bool
+mark_fits_resolver resolver mark =
     if nat_eq resolver 0 then is_some mark.carried else not (is_some mark.carried)

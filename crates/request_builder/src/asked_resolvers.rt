@@ -1,4 +1,4 @@
-//! The resolvers that are asked about the ranges of transactions.
+//! For each transaction the resolvers that its reads and writes ask.
 
 ghost use Rattle.std.specs.Prelude.{◌≡◌, ◌∷◌, [], ◌&&◌, length, map, IfOk};
 ghost use Rattle.system_keys.specs.Keys.{only};
@@ -9,7 +9,7 @@ ghost use Rattle.request_builder.specs.AskedResolvers.{AreReaderLists, AreWriter
 ghost use Rattle.request_builder.specs.AskedResolvers.{AreAskedResolvers, AreAllAskedResolvers};
 ghost use Rattle.request_builder.specs.AskedResolvers.{is_in, is_in_some, is_asked_about, asked_by};
 
-use dated_owners::{OwnerMap, ResolverSet, flag, flagged_resolvers};
+use dated_owners::{OwnerMap, ResolverSet, flag_resolver, flagged_resolvers};
 use model::{ResolverNumber, Version};
 use mutation::Stamped;
 use std::alloc::Global;
@@ -29,7 +29,7 @@ pub(crate) struct AskedResolvers {
 }
 
 /// The keys of the lock row: one range. Most batches have no use for it.
-pub(crate) fn lock_row(alloc: Global) -> Result<Vec<KeyRange>, OutOfMemory>
+pub(crate) fn lock_row_ranges(alloc: Global) -> Result<Vec<KeyRange>, OutOfMemory>
     ensures { IfOk result (λ row. row.items ≡ only locked_key ∷ []) }
 {
     let begin = Vec::from_slice(alloc, LOCKED_KEY)?;
@@ -57,13 +57,13 @@ pub(crate) fn all_asked_resolvers(
 {
     let mut askings = Vec::with_capacity(alloc, batch.len())?;
     for transaction in batch {
-        askings.push(ask_about(alloc, owners, oldest, transaction)?)?;
+        askings.push(resolvers_asked_about(alloc, owners, oldest, transaction)?)?;
     }
     Ok(askings)
 }
 
 /// Whom the map asks about a transaction.
-fn ask_about(
+fn resolvers_asked_about(
     alloc: Global,
     owners: &OwnerMap,
     oldest: Version,
@@ -77,13 +77,13 @@ fn ask_about(
     Ok(AskedResolvers {
         is_state,
         reads: reader_sets(alloc, owners, oldest, transaction.reads(), snapshot)?,
-        lock: lock_readers(alloc, owners, oldest, is_added, snapshot)?,
+        lock: lock_row_readers(alloc, owners, oldest, is_added, snapshot)?,
         writes: writer_sets(alloc, owners, transaction.writes())?,
     })
 }
 
 /// The resolvers that are asked to read the lock row, if that read is added, and otherwise no set.
-fn lock_readers(
+fn lock_row_readers(
     alloc: Global,
     owners: &OwnerMap,
     oldest: Version,
@@ -94,7 +94,7 @@ fn lock_readers(
         (λ sets. AreReaderLists oldest owners.now snapshot (lock_read is_added) sets) }
 {
     if is_added {
-        let row = lock_row(alloc)?;
+        let row = lock_row_ranges(alloc)?;
         reader_sets(alloc, owners, oldest, &row, snapshot)
     } else {
         reader_sets(alloc, owners, oldest, &[], snapshot)
@@ -198,7 +198,7 @@ fn flag_set(set: &ResolverSet, flags: &mut [bool])
 {
     for resolver in 0..flags.len() {
         if set.has(resolver) {
-            flag(flags, resolver);
+            flag_resolver(flags, resolver);
         }
     }
 }

@@ -7,12 +7,12 @@ ghost use Rattle.std.specs.Prelude.{◌≡◌, length, map, max, IfOk};
 ghost use Rattle.model.specs.Shares.{each_below, asked_back_to};
 ghost use Rattle.model.specs.Requests.{request_back_to};
 ghost use Rattle.model.specs.OwnerMaps.{AsksAs};
-ghost use Rattle.request_builder.specs.AskedResolvers.{request_by};
+ghost use Rattle.request_builder.specs.AskedResolvers.{request_for_resolver};
 
 use crate::asked_resolvers::{AskedResolvers, all_asked_resolvers, asked_lists};
 use crate::header::RequestHeader;
-use crate::marks::marks_by;
-use crate::parts::parts_by;
+use crate::marks::marks_for;
+use crate::parts::parts_for;
 use crate::record::Record;
 use crate::request::Request;
 use crate::requests::Requests;
@@ -46,13 +46,13 @@ pub fn build(
         built.asked ≡ map (asked_back_to oldest owners.now.resolvers rec.now) rec.now.batch) }
 {
     let askings = all_asked_resolvers(alloc, owners, oldest, rec.batch())?;
-    let requests = requests_by(alloc, owners.resolvers(), rec, last_received, &askings)?;
+    let requests = requests_for_record(alloc, owners.resolvers(), rec, last_received, &askings)?;
     let asked = asked_lists(alloc, owners.resolvers(), &askings)?;
     Ok(Requests { requests, asked })
 }
 
 /// The requests to the resolvers, in their order.
-fn requests_by(
+fn requests_for_record(
     alloc: Global,
     resolvers: usize,
     rec: &Record,
@@ -61,17 +61,17 @@ fn requests_by(
 ) -> Result<Items<Request>, OutOfMemory>
     requires { length askings.now ≡ length rec.now.batch }
     ensures { IfOk result (λ requests.
-        requests ≡ map (request_by rec.now last_received askings.now) (each_below resolvers)) }
+        requests ≡ map (request_for_resolver rec.now last_received askings.now) (each_below resolvers)) }
 {
     let mut requests = Vec::with_capacity(alloc, resolvers)?;
     for resolver in 0..resolvers {
-        requests.push(request_by(alloc, resolver, rec, last_received, askings)?)?;
+        requests.push(request_for_resolver(alloc, resolver, rec, last_received, askings)?)?;
     }
     Ok(Items::from(requests))
 }
 
 /// The request to one resolver.
-fn request_by(
+fn request_for_resolver(
     alloc: Global,
     resolver: ResolverNumber,
     rec: &Record,
@@ -80,7 +80,7 @@ fn request_by(
 ) -> Result<Request, OutOfMemory>
     requires { length askings.now ≡ length rec.now.batch }
     ensures { IfOk result (λ request.
-        request ≡ request_by rec.now last_received askings.now resolver) }
+        request ≡ request_for_resolver rec.now last_received askings.now resolver) }
 {
     let header = RequestHeader {
         resolver,
@@ -90,8 +90,8 @@ fn request_by(
         version: rec.version(),
         last_received,
     };
-    let parts = parts_by(alloc, resolver, rec.batch(), askings)?;
-    let marks = marks_by(alloc, resolver, rec.batch(), askings)?;
+    let parts = parts_for(alloc, resolver, rec.batch(), askings)?;
+    let marks = marks_for(alloc, resolver, rec.batch(), askings)?;
     let share = Share::new(Items::from(parts));
     Ok(Request::of_parts(header, share, Items::from(marks)))
 }

@@ -1,4 +1,4 @@
-//! The numbers of a request.
+//! The numbers of a request: its resolver, proxy, row and versions.
 
 ghost use Rattle.std.specs.Prelude.{◌≡◌, Ok};
 

@@ -1,4 +1,4 @@
-//! The moves so far, which records share.
+//! The list of all moves so far, in chunks that records share.
 
 ghost use Rattle.std.specs.Prelude.{◌≡◌, ◌≤◌, ◌++◌, ◌∷◌, [], length, slice_get, Some};
 ghost use Rattle.std.specs.Prelude.{IfOk, OnOk, OnErr, MatchOption};
@@ -68,7 +68,7 @@ impl Moves {
             return Err(OutOfMemory);
         };
         let alloc: Global = *self.chunks.allocator();
-        let (kept, room) = kept_and_room(&self.chunks);
+        let (kept, room) = kept_chunks_and_room(&self.chunks);
         let moves = join_chunks(alloc, room, &self.chunks[kept..], one)?;
         let chunk = Arc::new(alloc, Items::from(moves))?;
         let Ok(()) = self.chunks.reserve(1) else {
@@ -117,7 +117,7 @@ fn move_at(chunks: &[Arc<Items<Move>>], place: usize) -> Option<&Move>
 
 /// How many chunks stay when a move is appended, and how long the chunk is that the others and the
 /// move make.
-fn kept_and_room(chunks: &[Arc<Items<Move>>]) -> (usize, usize)
+fn kept_chunks_and_room(chunks: &[Arc<Items<Move>>]) -> (usize, usize)
     ensures { result.0 ≤ length chunks.now }
 {
     let mut room: usize = 1;

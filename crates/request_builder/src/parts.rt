@@ -1,13 +1,13 @@
-//! The parts of transactions that a resolver gets.
+//! The parts of a batch's transactions that one resolver gets.
 
 ghost use Rattle.std.specs.Prelude.{◌≡◌, ◌∷◌, ◌++◌, [], if◌then◌else◌, length, filter, IfOk, OnOk};
 ghost use Rattle.system_keys.specs.Keys.{only};
 ghost use Rattle.model.specs.Transactions.{locked_key};
 ghost use Rattle.model.specs.Journal.{list_at};
-ghost use Rattle.request_builder.specs.AskedResolvers.{is_in, ranges_for, part_by, is_part_sent};
-ghost use Rattle.request_builder.specs.AskedResolvers.{sent_part, parts_by};
+ghost use Rattle.request_builder.specs.AskedResolvers.{is_in, ranges_for, part_for, is_part_sent};
+ghost use Rattle.request_builder.specs.AskedResolvers.{sent_part, parts_for};
 
-use crate::asked_resolvers::{AskedResolvers, lock_row};
+use crate::asked_resolvers::{AskedResolvers, lock_row_ranges};
 use dated_owners::ResolverSet;
 use model::{Part, ResolverNumber, TransactionNumber};
 use mutation::Stamped;
@@ -15,26 +15,26 @@ use std::alloc::Global;
 use system_keys::{Items, KeyRange, OutOfMemory};
 
 /// The parts of the transactions that the resolver gets, in the order of the batch.
-pub(crate) fn parts_by(
+pub(crate) fn parts_for(
     alloc: Global,
     resolver: ResolverNumber,
     batch: &[Stamped],
     askings: &[AskedResolvers],
 ) -> Result<Vec<Part>, OutOfMemory>
     requires { length askings.now ≡ length batch.now }
-    ensures { IfOk result (λ parts. parts.items ≡ parts_by resolver 0 batch.now askings.now) }
+    ensures { IfOk result (λ parts. parts.items ≡ parts_for resolver 0 batch.now askings.now) }
 {
     let mut parts = Vec::new(alloc);
     for (number, transaction) in batch.iter().enumerate() {
         let asking = &askings[number];
-        let part = part_by(alloc, resolver, number, transaction, asking)?;
-        push_sent(&mut parts, asking.is_state, part)?;
+        let part = part_for(alloc, resolver, number, transaction, asking)?;
+        push_if_sent(&mut parts, asking.is_state, part)?;
     }
     Ok(parts)
 }
 
 /// Adds the part, if it is sent.
-fn push_sent(parts: &mut Vec<Part>, is_state: bool, part: Part) -> Result<(), OutOfMemory>
+fn push_if_sent(parts: &mut Vec<Part>, is_state: bool, part: Part) -> Result<(), OutOfMemory>
     ensures { OnOk result (parts.new.items ≡ parts.old.items ++ sent_part is_state part) }
 {
     if is_part_sent(is_state, &part) {
@@ -51,14 +51,14 @@ fn is_part_sent(is_state: bool, part: &Part) -> bool
 }
 
 /// The part of the transaction that the resolver gets.
-fn part_by(
+fn part_for(
     alloc: Global,
     resolver: ResolverNumber,
     number: TransactionNumber,
     transaction: &Stamped,
     asking: &AskedResolvers,
 ) -> Result<Part, OutOfMemory>
-    ensures { IfOk result (λ part. part ≡ part_by resolver number transaction.now asking.now) }
+    ensures { IfOk result (λ part. part ≡ part_for resolver number transaction.now asking.now) }
 {
     let mut reads = Vec::new(alloc);
     push_ranges(
@@ -96,7 +96,7 @@ fn push_lock_row(
     if sets.is_empty() {
         return Ok(());
     }
-    let row = lock_row(alloc)?;
+    let row = lock_row_ranges(alloc)?;
     push_ranges(copies, resolver, &row, sets)
 }
 
@@ -110,22 +110,26 @@ fn push_ranges(
     ensures { OnOk result
         (copies.new.items ≡ copies.old.items ++ ranges_for resolver ranges.now sets.now) }
 {
-    copies.reserve(how_many_have(resolver, sets))?;
+    copies.reserve(count_sets_with(resolver, sets))?;
     for (number, range) in ranges.iter().enumerate() {
-        push_if(copies, is_asked(resolver, sets, number), range)?;
+        push_if_asked(copies, is_asked(resolver, sets, number), range)?;
     }
     Ok(())
 }
 
 /// How many of the sets have the resolver.
-fn how_many_have(resolver: ResolverNumber, sets: &[ResolverSet]) -> usize
+fn count_sets_with(resolver: ResolverNumber, sets: &[ResolverSet]) -> usize
     ensures { result ≡ length (filter (is_in resolver) sets.now) }
 {
     sets.iter().filter(|set| set.has(resolver)).count()
 }
 
 /// Adds a copy of the range, if it is asked for.
-fn push_if(copies: &mut Vec<KeyRange>, is_asked: bool, range: &KeyRange) -> Result<(), OutOfMemory>
+fn push_if_asked(
+    copies: &mut Vec<KeyRange>,
+    is_asked: bool,
+    range: &KeyRange,
+) -> Result<(), OutOfMemory>
     ensures { OnOk result (copies.new.items
         ≡ copies.old.items ++ (if is_asked then range.now ∷ [] else [])) }
 {

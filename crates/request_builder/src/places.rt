@@ -1,4 +1,4 @@
-//! The place of a part in a share, by its number.
+//! The binary search for the part of a share with a given number.
 
 ghost use Rattle.std.specs.Prelude.{◌≡◌, Some, MatchOption, Contains, slice_get};
 ghost use Rattle.model.specs.RequestRules.{NumbersRise, part_numbers};

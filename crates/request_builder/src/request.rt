@@ -5,8 +5,8 @@
 ghost use Rattle.std.specs.Prelude.{◌≡◌, Some, IfOk, MatchOption, Contains, nat_lt, slice_get};
 ghost use Rattle.std.specs.List.{list_all};
 ghost use Rattle.model.specs.RequestRules.{KeepsRequestRule, NumbersRise, part_numbers};
-ghost use Rattle.request_builder.specs.Requests.{request_of, least_after, numbers_rise};
-ghost use Rattle.request_builder.specs.Requests.{names_part, is_carried_to};
+ghost use Rattle.request_builder.specs.Requests.{request_of, least_after, part_numbers_rise};
+ghost use Rattle.request_builder.specs.Requests.{mark_names_part, mark_fits_resolver};
 
 use crate::header::RequestHeader;
 use crate::places::place_of;
@@ -51,9 +51,9 @@ impl Request {
     {
         let parts = share.parts();
         let marks = states.as_slice();
-        if numbers_rise(parts)
-            && name_parts(parts, marks)
-            && are_carried_to(header.resolver, marks)
+        if part_numbers_rise(parts)
+            && marks_name_parts(parts, marks)
+            && marks_fit_resolver(header.resolver, marks)
         {
             Some(Request {
                 header,
@@ -146,7 +146,7 @@ impl Request {
         place_of(self.share.parts(), number)
     }
 
-    /// Returns a deep copy. Fails only with `OutOfMemory`.
+    /// Returns an equal copy. Fails only with `OutOfMemory`.
     pub fn copy(&self) -> Result<Request, OutOfMemory>
         ensures { IfOk result (λ copy. copy ≡ self.now) }
     {
@@ -167,8 +167,8 @@ impl Clone for Request {
 }
 
 /// Whether the numbers of the parts rise.
-fn numbers_rise(parts: &[Part]) -> bool
-    ensures { result ≡ numbers_rise 0 parts.now }
+fn part_numbers_rise(parts: &[Part]) -> bool
+    ensures { result ≡ part_numbers_rise 0 parts.now }
 {
     let mut last = None;
     for part in parts {
@@ -191,31 +191,31 @@ fn is_at_or_below(number: TransactionNumber, last: Option<TransactionNumber>) ->
 }
 
 /// Whether each mark names one of the parts.
-fn name_parts(parts: &[Part], marks: &[StateMark]) -> bool
+fn marks_name_parts(parts: &[Part], marks: &[StateMark]) -> bool
     requires { NumbersRise 0 parts.now }
-    ensures { result ≡ list_all (names_part parts.now) marks.now }
+    ensures { result ≡ list_all (mark_names_part parts.now) marks.now }
 {
-    marks.iter().all(|mark| names_part(parts, mark))
+    marks.iter().all(|mark| mark_names_part(parts, mark))
 }
 
 /// Whether the mark names one of the parts.
-fn names_part(parts: &[Part], mark: &StateMark) -> bool
+fn mark_names_part(parts: &[Part], mark: &StateMark) -> bool
     requires { NumbersRise 0 parts.now }
-    ensures { result ≡ names_part parts.now mark.now }
+    ensures { result ≡ mark_names_part parts.now mark.now }
 {
     place_of(parts, mark.number).is_some()
 }
 
 /// Whether the marks have the content of their transactions exactly if the resolver is 0.
-fn are_carried_to(resolver: ResolverNumber, marks: &[StateMark]) -> bool
-    ensures { result ≡ list_all (is_carried_to resolver) marks.now }
+fn marks_fit_resolver(resolver: ResolverNumber, marks: &[StateMark]) -> bool
+    ensures { result ≡ list_all (mark_fits_resolver resolver) marks.now }
 {
-    marks.iter().all(|mark| is_carried_to(resolver, mark))
+    marks.iter().all(|mark| mark_fits_resolver(resolver, mark))
 }
 
 /// Whether the mark has the content of its transaction exactly if the resolver is 0.
-fn is_carried_to(resolver: ResolverNumber, mark: &StateMark) -> bool
-    ensures { result ≡ is_carried_to resolver mark.now }
+fn mark_fits_resolver(resolver: ResolverNumber, mark: &StateMark) -> bool
+    ensures { result ≡ mark_fits_resolver resolver mark.now }
 {
     if resolver == 0 {
         mark.carried.is_some()

@@ -16,7 +16,7 @@ pub struct Requests {
 }
 
 impl Requests {
-    /// Returns a deep copy. Fails only with `OutOfMemory`.
+    /// Returns an equal copy. Fails only with `OutOfMemory`.
     pub fn copy(&self) -> Result<Requests, OutOfMemory>
         ensures { IfOk result (λ copy. copy ≡ self.now) }
     {

@@ -1,4 +1,4 @@
-//! Where a text is placed that a caller gave room for.
+//! The statuses of calls on a script, and copying its text into the caller's buffer.
 
 ghost use Rattle.std.specs.Prelude.{◌≡◌, IfOk, IsErrOf};
 ghost use Rattle.scripts.specs.Statuses.{IsWholeText};
@@ -16,8 +16,8 @@ pub const TOO_LONG: u8 = 3;
 /// The status of a call that lacked memory, as the program's.
 pub const OUT_OF_MEMORY: u8 = 4;
 
-/// Places a text at the front of `out`, and its length in `made`, and returns the status of the call.
-/// Where `out` is too small only `made` changes, and without a text nothing does.
+/// Places a text at the front of `out`, and its length in `made`, and returns the status of the
+/// call. If `out` is too small, only `made` changes. If there is no text, nothing changes.
 pub fn place(found: Result<ScriptText, TextFault>, out: &mut [u8], made: &mut usize) -> u8
     requires { IfOk found (λ text. IsWholeText text.status) }
     ensures places { (answer : OutputView) → IfOk found (IsTextOf answer)

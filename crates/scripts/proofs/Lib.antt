@@ -1,6 +1,7 @@
 pub mod AnswerLemmas
 pub mod CheckLemmas
 pub mod ListLemmas
+pub mod PlainBytes
 pub mod RunLemmas
 pub mod StreamLemmas
 pub mod StreamListLemmas

@@ -77,9 +77,9 @@ takes_number depth text n old new first is within = rw (first, value_is depth (T
 
 -- ---- numbers
 
-whole_number : (s : List ℕ) (n : ℕ) → (slice_index s 0 == minus) ≡ false → IsInteger (scan s) → digits_of (scan s) < 2 ^ 64 → n ≡ digits_of (scan s) → number_of s ≡ Some (unsigned n)
+parse_whole_number : (s : List ℕ) (n : ℕ) → (slice_index s 0 == minus) ≡ false → IsInteger (scan s) → digits_of (scan s) < 2 ^ 64 → n ≡ digits_of (scan s) → number_of s ≡ Some (unsigned n)
 unfolding number_of
-whole_number s n plain whole fits is =
+parse_whole_number s n plain whole fits is =
     let some = lt-ltb 0 (length (scan s).whole) whole.0 in
     let within = lt-ltb (digits_of (scan s)) (2 ^ 64) fits in
     rw (plain, is, some, whole.1, whole.2, within) refl
@@ -88,4 +88,4 @@ whole_number s n plain whole fits is =
 pub number_scanned : (s : List ℕ) (read : Option ℕ) → (slice_index s 0 == minus) ≡ false → SomeIff read (IsInteger (scan s) × (digits_of (scan s) < 2 ^ 64)) (digits_of (scan s))
     → IfSome read (λ n. number_of s ≡ Some (unsigned n))
 number_scanned s None plain is = tt
-number_scanned s (Some n) plain is = whole_number s n plain is.0.0 is.0.1 is.1
+number_scanned s (Some n) plain is = parse_whole_number s n plain is.0.0 is.0.1 is.1

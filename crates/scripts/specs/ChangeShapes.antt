@@ -15,8 +15,8 @@ only_pair d (Some value) = if has_fields 1 d then option_map Some (pair_shape va
 only_pair d None = Some None
 
 -- `{"NAME":[text,text]}` gives the two texts; an object without this field gives nothing
-abbrev pub pair_named : List ℕ → Data → Option (Option (List ℕ × List ℕ))
-pair_named name d = only_pair d (get name d)
+abbrev pub pair_in_field : List ℕ → Data → Option (Option (List ℕ × List ℕ))
+pair_in_field name d = only_pair d (get name d)
 
 -- what the pair stands for if there is one, and otherwise the next form
 abbrev pub or_form : {X : Type 0} → Option (Option (List ℕ × List ℕ)) → (List ℕ → List ℕ → X)
@@ -27,18 +27,18 @@ or_form (Some None) form next = next
 
 -- `{"clear":[begin,end]}`
 abbrev pub clear_shape : Data → Option RawChange
-clear_shape d = or_form (pair_named (codes "clear") d) Clear None
+clear_shape d = or_form (pair_in_field (codes "clear") d) Clear None
 
 -- `{"set":[key,value]}` or `{"clear":[begin,end]}`
 abbrev pub change_shape : Data → Option RawChange
-change_shape d = or_form (pair_named (codes "set") d) Set (clear_shape d)
+change_shape d = or_form (pair_in_field (codes "set") d) Set (clear_shape d)
 
 -- a change, as a mutation of a transaction
-abbrev pub from_raw : RawChange → Mutation
-from_raw (Set key value) = mutations.Set key value
-from_raw (Clear begin end) = mutations.Clear begin end
+abbrev pub mutation_of_raw : RawChange → Mutation
+mutation_of_raw (Set key value) = mutations.Set key value
+mutation_of_raw (Clear begin end) = mutations.Clear begin end
 
 -- `{"set_stamped":[key,value]}`, or a change
 abbrev pub mutation_shape : Data → Option Mutation
-mutation_shape d = or_form (pair_named (codes "set_stamped") d) mutations.SetStamped
-    (option_map from_raw (change_shape d))
+mutation_shape d = or_form (pair_in_field (codes "set_stamped") d) mutations.SetStamped
+    (option_map mutation_of_raw (change_shape d))

@@ -10,6 +10,8 @@ pub mod Statuses
 pub mod Outputs
 -- the lines that are printed
 pub mod Lines
+-- the words for verdicts, outcomes and unseen rows
+pub mod Names
 -- the script that bytes are, by its form and its checks
 pub mod Scripts
 -- the JSON value of bytes

@@ -1,4 +1,4 @@
--- The lines that are printed for a folded journal (this project's profile).
+-- The lines that are printed of a routing, of asked keys and of refusals (this project's profile).
 use Rattle.std.specs.Prelude.{ℕ, List, [], ◌∷◌, ◌++◌, map, flat_map, codes}
 use Rattle.std.specs.Prelude.{Bool, true, false, Option, Some, None}
 use Rattle.std.specs.Fmt.{decimal}
@@ -71,6 +71,15 @@ asked_line rows key = tags_line key (tags_of_key rows key)
 abbrev pub asked_text : Entries → List Key → List ℕ
 asked_text rows keys = flat_map (asked_line rows) keys
 
--- a refusal: its number and its name
+-- a number, or `none`
+abbrev pub number_or_none : Option ℕ → List ℕ
+number_or_none None = codes "none"
+number_or_none (Some n) = decimal n
+
+-- the number and the name of a refusal
+abbrev pub refused_text : Option ℕ → List ℕ → List ℕ
+refused_text number name = codes "refused " ++ number_or_none number ++ spaced name
+
+-- a refused script: the number and the name of its fault
 abbrev pub refused_line : ℕ → List ℕ → List ℕ
-refused_line number name = line (codes "refused " ++ decimal number ++ spaced name)
+refused_line number name = line (refused_text (Some number) name)

@@ -1,4 +1,4 @@
-//! Reading of batches.
+//! Reading a batch: by its tokens, else by its JSON value.
 
 ghost use Rattle.std.specs.Prelude.{◌≡◌, IfSome, Ok};
 ghost use Rattle.serde_json.specs.View.{view};

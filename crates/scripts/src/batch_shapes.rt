@@ -1,4 +1,4 @@
-//! What is read of the values of a batch.
+//! Ranges and transactions of a batch from JSON values.
 
 ghost use Rattle.scripts.specs.BatchShapes.{range_shape, transaction_shape};
 

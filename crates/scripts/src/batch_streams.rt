@@ -1,4 +1,4 @@
-//! Batches, as their tokens come.
+//! Ranges and transactions of a batch from tokens.
 
 ghost use Rattle.std.specs.Prelude.{◌≡◌, ◌+◌, codes};
 ghost use Rattle.serde_json.specs.Find.{as_bool};
@@ -7,7 +7,7 @@ ghost use Rattle.scripts.specs.ChangeShapes.{mutation_shape};
 ghost use Rattle.scripts.specs.Shapes.{count_members, list_shape, number_shape};
 ghost use Rattle.scripts.specs.Streams.{Slot, one};
 
-use crate::stream_objects::{Fields, take_into, take_object};
+use crate::stream_objects::{Fields, take_into_slot, take_object};
 use crate::stream_shapes::take_pair;
 use crate::streams::Streamed;
 use json::Reader as TokenReader;
@@ -80,11 +80,11 @@ impl Fields for TransactionFields {
         name: &str,
     ) -> Option<()> {
         match name {
-            "snapshot" => take_into(&mut self.snapshot, alloc, reader, depth),
-            "reads" => take_into(&mut self.reads, alloc, reader, depth),
-            "writes" => take_into(&mut self.writes, alloc, reader, depth),
-            "mutations" => take_into(&mut self.mutations, alloc, reader, depth),
-            "lock_aware" => take_into(&mut self.lock_aware, alloc, reader, depth),
+            "snapshot" => take_into_slot(&mut self.snapshot, alloc, reader, depth),
+            "reads" => take_into_slot(&mut self.reads, alloc, reader, depth),
+            "writes" => take_into_slot(&mut self.writes, alloc, reader, depth),
+            "mutations" => take_into_slot(&mut self.mutations, alloc, reader, depth),
+            "lock_aware" => take_into_slot(&mut self.lock_aware, alloc, reader, depth),
             _ => None,
         }
     }

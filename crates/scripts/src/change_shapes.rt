@@ -1,9 +1,9 @@
-//! What is read of the value of a change, in fold scripts and in batches.
+//! Changes of a fold script and mutations of a batch from JSON values.
 
 ghost use Rattle.std.specs.Prelude.{◌≡◌};
 ghost use Rattle.serde_json.specs.View.{view};
-ghost use Rattle.scripts.specs.ChangeShapes.{change_shape, clear_shape, from_raw};
-ghost use Rattle.scripts.specs.ChangeShapes.{mutation_shape, pair_named};
+ghost use Rattle.scripts.specs.ChangeShapes.{change_shape, clear_shape, mutation_of_raw};
+ghost use Rattle.scripts.specs.ChangeShapes.{mutation_shape, pair_in_field};
 ghost use Rattle.scripts.specs.ScriptFaults.{IsReadAs};
 ghost use Rattle.scripts.specs.Shapes.{or_bad_shape};
 
@@ -19,7 +19,7 @@ impl Shaped for RawChange {
     ghost shape = { change_shape };
 
     fn from_value(alloc: Global, value: &Value) -> Result<RawChange, ScriptFault> {
-        match pair_named(alloc, value, "set")? {
+        match pair_in_field(alloc, value, "set")? {
             Some((key, value)) => Ok(RawChange::Set { key, value }),
             None => clear(alloc, value),
         }
@@ -30,9 +30,9 @@ impl Shaped for Mutation {
     ghost shape = { mutation_shape };
 
     fn from_value(alloc: Global, value: &Value) -> Result<Mutation, ScriptFault> {
-        match pair_named(alloc, value, "set_stamped")? {
+        match pair_in_field(alloc, value, "set_stamped")? {
             Some((key, value)) => Ok(Mutation::SetStamped { key, value }),
-            None => Ok(from_raw(RawChange::from_value(alloc, value)?)),
+            None => Ok(mutation_of_raw(RawChange::from_value(alloc, value)?)),
         }
     }
 }
@@ -40,14 +40,14 @@ impl Shaped for Mutation {
 fn clear(alloc: Global, value: &Value) -> Result<RawChange, ScriptFault>
     ensures { IsReadAs (λ found. found) result (or_bad_shape (clear_shape (view value.now))) }
 {
-    match pair_named(alloc, value, "clear")? {
+    match pair_in_field(alloc, value, "clear")? {
         Some((begin, end)) => Ok(RawChange::Clear { begin, end }),
         None => Err(ScriptFault::BadShape),
     }
 }
 
-fn from_raw(change: RawChange) -> Mutation
-    ensures { result ≡ from_raw change }
+fn mutation_of_raw(change: RawChange) -> Mutation
+    ensures { result ≡ mutation_of_raw change }
 {
     match change {
         RawChange::Set { key, value } => Mutation::Set { key, value },
@@ -57,13 +57,13 @@ fn from_raw(change: RawChange) -> Mutation
 
 // The two texts in the field of this name, which has to be the only field; `None` without such a
 // field.
-fn pair_named(
+fn pair_in_field(
     alloc: Global,
     value: &Value,
     name: &str,
 ) -> Result<Option<(Bytes, Bytes)>, ScriptFault>
     ensures { IsReadAs (λ found. found) result
-        (or_bad_shape (pair_named name.now (view value.now))) }
+        (or_bad_shape (pair_in_field name.now (view value.now))) }
 {
     match value.get(name) {
         Some(field) if has_fields(value, 1) => Ok(Some(pair(alloc, field)?)),

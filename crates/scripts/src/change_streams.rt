@@ -1,7 +1,7 @@
-//! Changes and mutations, as their tokens come.
+//! Changes of a fold script and mutations of a batch from tokens.
 
 use crate::raw_change::RawChange;
-use crate::stream_objects::take_named_pair;
+use crate::stream_objects::take_object_of_pair;
 use crate::streams::Streamed;
 use json::Reader as TokenReader;
 use mutation::Mutation;
@@ -9,7 +9,7 @@ use std::alloc::Global;
 
 impl Streamed for RawChange {
     fn from_tokens(alloc: Global, reader: &mut TokenReader<'_>, depth: usize) -> Option<RawChange> {
-        let (name, (first, second)) = take_named_pair(alloc, reader, depth)?;
+        let (name, (first, second)) = take_object_of_pair(alloc, reader, depth)?;
         match name {
             "set" => Some(RawChange::Set {
                 key: first,
@@ -26,7 +26,7 @@ impl Streamed for RawChange {
 
 impl Streamed for Mutation {
     fn from_tokens(alloc: Global, reader: &mut TokenReader<'_>, depth: usize) -> Option<Mutation> {
-        let (name, (first, second)) = take_named_pair(alloc, reader, depth)?;
+        let (name, (first, second)) = take_object_of_pair(alloc, reader, depth)?;
         match name {
             "set" => Some(Mutation::Set {
                 key: first,

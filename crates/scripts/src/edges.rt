@@ -1,4 +1,4 @@
-//! What a run writes, on small values. No code: each contract is a list of cases.
+//! Edge cases of what a run has written when it ends. No code: each contract is a list of cases.
 
 ghost use Rattle.scripts.specs.Edges.{ABeginningIsWritten, TheWholeTextIsWritten};
 

@@ -1,4 +1,4 @@
-//! The keys that a script asks about.
+//! Copying the keys whose tags a script asks.
 
 ghost use Rattle.std.specs.Prelude.{◌≡◌, IfOk};
 

@@ -1,173 +1,86 @@
-//! The lines of a routing, of tags that are asked, and of a refused script.
+//! The lines of a routing, and of tags that are asked.
 
-ghost use Rattle.std.specs.Prelude.{◌≡◌, ◌++◌, OnOk, string_bytes, map};
 ghost use Rattle.std.specs.List.{flat_map};
-ghost use Rattle.scripts.specs.Lines.{quoted, quoted_or_none, tag_text, tags_text, spaced};
-ghost use Rattle.scripts.specs.Lines.{version_line, locked_line, metadata_version_line};
-ghost use Rattle.scripts.specs.Lines.{route_line, routing_text, tags_line, refused_line};
+ghost use Rattle.pages.specs.Printing.{Prints};
+ghost use Rattle.scripts.specs.Lines.{locked_line, metadata_version_line, quoted_or_none};
+ghost use Rattle.scripts.specs.Lines.{route_line, routing_text, tags_line, version_line};
 
-use itoa::Buffer;
+use crate::line_pieces::{push_numbered, push_quoted};
+use crate::words::push_list;
 use model::{Route, Routing, Version};
-use std::alloc::Global;
-use std::fmt::Write;
-use system_keys::{Bytes, OutOfMemory, Tag, print_bytes};
+use pages::Page;
+use system_keys::{Bytes, Tag};
 
 /// Prints a routing: its version, whether it is locked, its metadata version, and a line for each
-/// of its routes. Fails only with `OutOfMemory`.
-pub fn print_routing(alloc: Global, text: &mut String, routing: &Routing) -> Result<(), OutOfMemory>
-    ensures { OnOk result (string_bytes text.new
-        ≡ string_bytes text.old ++ routing_text routing.now) }
+/// of its routes.
+pub fn print_routing<P: Page>(page: &mut P, routing: &Routing)
+    ensures { Prints P.has_printed page.old page.new (routing_text routing.now) }
 {
-    print_version(text, routing.version)?;
-    print_locked(text, routing.locked)?;
-    print_metadata_version(alloc, text, &routing.metadata_version)?;
-    print_routes(alloc, text, routing.routes.as_slice())
+    print_version(page, routing.version);
+    print_locked(page, routing.locked);
+    print_metadata_version(page, &routing.metadata_version);
+    print_routes(page, routing.routes.as_slice());
 }
 
 /// Prints an asked key and its tags.
-/// Fails only with `OutOfMemory`.
-pub fn print_asked(
-    alloc: Global,
-    text: &mut String,
-    key: &[u8],
-    tags: &[Tag],
-) -> Result<(), OutOfMemory>
-    ensures { OnOk result (string_bytes text.new
-        ≡ string_bytes text.old ++ tags_line key.now tags.now) }
+pub fn print_asked_key<P: Page>(page: &mut P, key: &[u8], tags: &[Tag])
+    ensures { Prints P.has_printed page.old page.new (tags_line key.now tags.now) }
 {
-    text.push_str("tags ")?;
-    push_quoted(alloc, text, key)?;
-    text.push_str(" ")?;
-    push_tags(text, tags)?;
-    text.push_str("\n")?;
-    Ok(())
+    page.push("tags ");
+    push_quoted(page, key);
+    page.push(" ");
+    push_list(page, tags);
+    page.push("\n");
 }
 
-/// Prints a refusal: its number and its name.
-/// Fails only with `OutOfMemory`.
-pub fn print_refusal(text: &mut String, number: u32, name: &str) -> Result<(), OutOfMemory>
-    ensures { OnOk result (string_bytes text.new
-        ≡ string_bytes text.old ++ refused_line number name.now) }
+fn print_version<P: Page>(page: &mut P, version: Version)
+    ensures { Prints P.has_printed page.old page.new (version_line version) }
 {
-    writeln!(text, "refused {number} {name}")?;
-    Ok(())
+    push_numbered(page, "version ", version);
+    page.push("\n");
 }
 
-fn print_version(text: &mut String, version: Version) -> Result<(), OutOfMemory>
-    ensures { OnOk result (string_bytes text.new ≡ string_bytes text.old ++ version_line version) }
+fn print_locked<P: Page>(page: &mut P, locked: bool)
+    ensures { Prints P.has_printed page.old page.new (locked_line locked) }
 {
-    writeln!(text, "version {version}")?;
-    Ok(())
-}
-
-fn print_locked(text: &mut String, locked: bool) -> Result<(), OutOfMemory>
-    ensures { OnOk result (string_bytes text.new ≡ string_bytes text.old ++ locked_line locked) }
-{
-    text.push_str(if locked {
+    page.push(if locked {
         "locked yes\n"
     } else {
         "locked no\n"
-    })?;
-    Ok(())
+    });
 }
 
-fn print_metadata_version(
-    alloc: Global,
-    text: &mut String,
-    value: &Option<Bytes>,
-) -> Result<(), OutOfMemory>
-    ensures { OnOk result (string_bytes text.new
-        ≡ string_bytes text.old ++ metadata_version_line value.now) }
+fn print_metadata_version<P: Page>(page: &mut P, value: &Option<Bytes>)
+    ensures { Prints P.has_printed page.old page.new (metadata_version_line value.now) }
 {
-    text.push_str("metadata_version ")?;
-    push_quoted_or_none(alloc, text, value)?;
-    text.push_str("\n")?;
-    Ok(())
+    page.push("metadata_version ");
+    push_quoted_or_none(page, value);
+    page.push("\n");
 }
 
-fn push_quoted_or_none(
-    alloc: Global,
-    text: &mut String,
-    value: &Option<Bytes>,
-) -> Result<(), OutOfMemory>
-    ensures { OnOk result (string_bytes text.new
-        ≡ string_bytes text.old ++ quoted_or_none value.now) }
+fn push_quoted_or_none<P: Page>(page: &mut P, value: &Option<Bytes>)
+    ensures { Prints P.has_printed page.old page.new (quoted_or_none value.now) }
 {
     match value {
-        Some(bytes) => push_quoted(alloc, text, bytes.as_slice()),
-        None => {
-            text.push_str("none")?;
-            Ok(())
-        }
+        Some(bytes) => push_quoted(page, bytes.as_slice()),
+        None => page.push("none"),
     }
 }
 
-fn print_routes(alloc: Global, text: &mut String, routes: &[Route]) -> Result<(), OutOfMemory>
-    ensures { OnOk result (string_bytes text.new
-        ≡ string_bytes text.old ++ flat_map route_line routes.now) }
+fn print_routes<P: Page>(page: &mut P, routes: &[Route])
+    ensures { Prints P.has_printed page.old page.new (flat_map route_line routes.now) }
 {
     for route in routes {
-        print_route(alloc, text, route)?;
-    }
-    Ok(())
-}
-
-fn print_route(alloc: Global, text: &mut String, route: &Route) -> Result<(), OutOfMemory>
-    ensures { OnOk result (string_bytes text.new ≡ string_bytes text.old ++ route_line route.now) }
-{
-    text.push_str("route ")?;
-    push_quoted(alloc, text, route.key.as_slice())?;
-    text.push_str(" ")?;
-    push_tags(text, route.tags.as_slice())?;
-    text.push_str("\n")?;
-    Ok(())
-}
-
-/// Appends the text of the bytes between double quotes. Fails only with `OutOfMemory`.
-pub fn push_quoted(alloc: Global, text: &mut String, bytes: &[u8]) -> Result<(), OutOfMemory>
-    ensures { OnOk result (string_bytes text.new ≡ string_bytes text.old ++ quoted bytes.now) }
-{
-    let printed = print_bytes(alloc, bytes)?;
-    text.push_str("\"")?;
-    text.push_str(printed.as_str())?;
-    text.push_str("\"")?;
-    Ok(())
-}
-
-/// Prints tags in one line, with one space between, or `none` without tags. Fails only with
-/// `OutOfMemory`.
-pub fn push_tags(text: &mut String, tags: &[Tag]) -> Result<(), OutOfMemory>
-    ensures { OnOk result (string_bytes text.new ≡ string_bytes text.old ++ tags_text tags.now) }
-{
-    match tags.split_first() {
-        Some((first, rest)) => {
-            push_tag(text, first)?;
-            push_spaced_tags(text, rest)
-        }
-        None => {
-            text.push_str("none")?;
-            Ok(())
-        }
+        print_route(page, route);
     }
 }
 
-fn push_spaced_tags(text: &mut String, tags: &[Tag]) -> Result<(), OutOfMemory>
-    ensures { OnOk result (string_bytes text.new
-        ≡ string_bytes text.old ++ flat_map spaced (map tag_text tags.now)) }
+fn print_route<P: Page>(page: &mut P, route: &Route)
+    ensures { Prints P.has_printed page.old page.new (route_line route.now) }
 {
-    for tag in tags {
-        text.push_str(" ")?;
-        push_tag(text, tag)?;
-    }
-    Ok(())
-}
-
-/// Appends a tag: its locality, a colon, its id. Fails only with `OutOfMemory`.
-pub fn push_tag(text: &mut String, tag: &Tag) -> Result<(), OutOfMemory>
-    ensures { OnOk result (string_bytes text.new ≡ string_bytes text.old ++ tag_text tag.now) }
-{
-    text.push_str(Buffer::new().format(tag.locality))?;
-    text.push_str(":")?;
-    text.push_str(Buffer::new().format(tag.id))?;
-    Ok(())
+    page.push("route ");
+    push_quoted(page, route.key.as_slice());
+    page.push(" ");
+    push_list(page, route.tags.as_slice());
+    page.push("\n");
 }

@@ -5,7 +5,7 @@ ghost use Rattle.scripts.specs.Outputs.{IsOutput, refused_output};
 ghost use Rattle.scripts.specs.ScriptFaults.{fault_number};
 ghost use Rattle.scripts.specs.Statuses.{IsWholeText};
 
-use crate::lines::print_refusal;
+use crate::line_pieces::print_refused;
 use crate::script_fault::ScriptFault;
 use crate::status::RunStatus;
 use std::alloc::Global;
@@ -29,7 +29,8 @@ pub fn output_of_fault(alloc: Global, fault: ScriptFault) -> Result<Output, OutO
 {
     let number = fault.number().ok_or(OutOfMemory)?;
     let mut text = String::new(alloc);
-    print_refusal(&mut text, number, fault.name())?;
+    print_refused(&mut text, number, fault.name())?;
+    text.push_str("\n")?;
     Ok(Output {
         text,
         status: RunStatus::ScriptRefused,

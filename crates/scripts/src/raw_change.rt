@@ -1,4 +1,4 @@
-//! Changes, as scripts have them.
+//! A change as it is written in a script, before it is checked.
 
 ghost use Rattle.std.specs.Prelude.{◌≡◌, IfOk};
 

@@ -1,5 +1,4 @@
-//! Reading of scripts of every kind: the value that the bytes are, what has its shape, and what
-//! passes its checks.
+//! Reading any script: its JSON value or its tokens, then its checks.
 
 ghost use Rattle.std.specs.Prelude.{◌≡◌, IfSome, Ok};
 ghost use Rattle.serde_json.specs.View.{view};
@@ -28,6 +27,16 @@ pub fn read_checked<R: Streamed, X: Checked<R>>(
     if let Some(script) = stream_checked::<R, X>(alloc, bytes) {
         return Ok(script);
     }
+    read_whole::<R, X>(alloc, bytes)
+}
+
+/// Returns the script that the bytes are as `read_checked` does, always by their JSON value.
+pub(crate) fn read_whole<R: Shaped, X: Checked<R>>(
+    alloc: Global,
+    bytes: &[u8],
+) -> Result<X, ScriptFault>
+    ensures { IsReadAs (λ found. found) result (read_as R.shape X.checked bytes.now) }
+{
     let value = read_value(alloc, bytes)?;
     check_value::<R, X>(alloc, &value)
 }

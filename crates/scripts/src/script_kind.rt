@@ -1,4 +1,4 @@
-//! The output of a script of any kind.
+//! The trait of a kind of script, and the output for a script of such a kind.
 
 ghost use Rattle.std.specs.Prelude.{◌≡◌, ◌++◌, ℕ, List, IfOk, IfSome, OnOk, Ok, string_bytes};
 ghost use Rattle.scripts.specs.Outputs.{OutputView, IsOutput, output_for, done};
@@ -8,17 +8,17 @@ ghost use Rattle.scripts.specs.Statuses.{IsWholeText};
 
 use crate::checks::Checked;
 use crate::output::{Output, output_of_fault};
-use crate::reading::read_checked;
+use crate::reading::read_whole;
 use crate::script_fault::ScriptFault;
+use crate::shaped::Shaped;
 use crate::status::RunStatus;
-use crate::streams::Streamed;
 use std::alloc::Global;
 use system_keys::OutOfMemory;
 
 /// A kind of script: how one is read, and what is printed of it.
 pub trait ScriptKind {
     /// A script as it is written.
-    type Raw: Streamed;
+    type Raw: Shaped;
 
     /// A script whose keys, values and ranges are checked.
     type Script: Checked<Self::Raw>;
@@ -42,7 +42,8 @@ pub trait ScriptKind {
 }
 
 /// The output for a script of this kind: what is printed of it, or its first fault (this project's
-/// profile). Fails only with `OutOfMemory`.
+/// profile). So the bytes are read twice at most: as their tokens come, and as a JSON value. Fails only
+/// with `OutOfMemory`.
 pub fn output_for<K: ScriptKind>(alloc: Global, bytes: Vec<u8>) -> Result<Output, OutOfMemory>
     ensures output { IfOk result (IsOutput (K.output_to bytes.items)) }
     ensures answered { IfOk result (λ output. IsWholeText output.status) }
@@ -61,21 +62,21 @@ fn output_for_whole<K: ScriptKind>(alloc: Global, bytes: Vec<u8>) -> Result<Outp
     ensures output { IfOk result (IsOutput (K.output_to bytes.items)) }
     ensures answered { IfOk result (λ output. IsWholeText output.status) }
 {
-    match read_of::<K>(alloc, bytes) {
-        Ok(script) => output_of::<K>(alloc, script),
+    match script_of_kind::<K>(alloc, bytes) {
+        Ok(script) => output_of_script::<K>(alloc, script),
         Err(fault) => output_of_fault(alloc, fault),
     }
 }
 
 /// The script that the bytes hold, or their first fault. Drops the bytes.
-fn read_of<K: ScriptKind>(alloc: Global, bytes: Vec<u8>) -> Result<K::Script, ScriptFault>
+fn script_of_kind<K: ScriptKind>(alloc: Global, bytes: Vec<u8>) -> Result<K::Script, ScriptFault>
     ensures { IsReadAs (λ script. script) result
         (read_as K.Raw.shape K.Script.checked bytes.items) }
 {
-    read_checked::<K::Raw, K::Script>(alloc, &bytes)
+    read_whole::<K::Raw, K::Script>(alloc, &bytes)
 }
 
-fn output_of<K: ScriptKind>(alloc: Global, script: K::Script) -> Result<Output, OutOfMemory>
+fn output_of_script<K: ScriptKind>(alloc: Global, script: K::Script) -> Result<Output, OutOfMemory>
     ensures output { IfOk result (IsOutput (output_for K.printed (Ok script))) }
     ensures answered { IfOk result (λ output. IsWholeText output.status) }
 {

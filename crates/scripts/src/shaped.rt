@@ -1,5 +1,5 @@
-//! Values that have a shape: what is read of a JSON value that is a number, a boolean, a text, a
-//! verdict, a list, a pair or an object.
+//! The trait of types that are read from JSON values, and its cases of numbers, texts, lists and
+//! pairs.
 
 ghost use Rattle.std.specs.Prelude.{◌≡◌, Option};
 ghost use Rattle.serde_json.specs.Data.{Data};
@@ -19,7 +19,7 @@ use system_keys::{Bytes, Items, RowFault};
 /// The greatest number of a script (this project's profile).
 pub(crate) const NUMBER_LIMIT: u64 = 9_223_372_036_854_775_807;
 
-/// What is read of a JSON value of its shape.
+/// A type that is read from a JSON value of its shape.
 pub trait Shaped: Drop {
     ghost shape: { Data → Option Self };
 

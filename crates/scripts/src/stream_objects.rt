@@ -6,7 +6,7 @@ ghost use Rattle.scripts.specs.Shapes.{pair_shape};
 ghost use Rattle.scripts.specs.Streams.{TakesData, TakesField, TakesMembers};
 
 use crate::stream_shapes::take_pair;
-use crate::stream_tokens::{begin_object, end_object};
+use crate::stream_tokens::{take_begin_object, take_end_object};
 use crate::streams::Streamed;
 use json::Reader as TokenReader;
 use std::alloc::Global;
@@ -43,7 +43,7 @@ pub fn take_object<F: Fields>(
     ensures { IfSome result (λ fields. (ms : Members)
         × TakesData depth reader.old (object ms) reader.new × F.holds fields ms) }
 {
-    if depth == 0 || !begin_object(reader) {
+    if depth == 0 || !take_begin_object(reader) {
         return None;
     }
     take_fields(alloc, reader, depth - 1)
@@ -63,7 +63,7 @@ fn take_fields<F: Fields>(alloc: Global, reader: &mut TokenReader<'_>, depth: us
 
 /// Takes a value, and puts what it stands for into an empty slot. Returns `None` if the slot is
 /// filled, and otherwise as `Streamed` does.
-pub fn take_into<X: Streamed>(
+pub fn take_into_slot<X: Streamed>(
     slot: &mut Option<X>,
     alloc: Global,
     reader: &mut TokenReader<'_>,
@@ -80,7 +80,7 @@ pub fn take_into<X: Streamed>(
 }
 
 // The name of the only field of an object, and what the list of two texts in it stands for.
-pub(crate) fn take_named_pair<'a>(
+pub(crate) fn take_object_of_pair<'a>(
     alloc: Global,
     reader: &mut TokenReader<'a>,
     depth: usize,
@@ -89,12 +89,12 @@ pub(crate) fn take_named_pair<'a>(
         × TakesData depth reader.old (object (member named.0.now d no_members)) reader.new
         × (pair_shape d ≡ Some named.1)) }
 {
-    if depth == 0 || !begin_object(reader) {
+    if depth == 0 || !take_begin_object(reader) {
         return None;
     }
     let name = reader.next_key().ok()??;
     let pair = take_pair(alloc, reader, depth - 1)?;
-    if end_object(reader) {
+    if take_end_object(reader) {
         Some((name, pair))
     } else {
         None

@@ -1,11 +1,11 @@
-//! Numbers, texts, verdicts and lists, as their tokens come.
+//! Numbers, texts, verdicts and lists from tokens.
 
 ghost use Rattle.std.specs.Prelude.{◌≡◌, IfSome};
 ghost use Rattle.scripts.specs.Shapes.{pair_shape};
 ghost use Rattle.scripts.specs.Streams.{Takes, TakesEach};
 
 use crate::shaped::NUMBER_LIMIT;
-use crate::stream_tokens::{begin_array, take_digits, take_text, whole_number};
+use crate::stream_tokens::{parse_whole_number, take_begin_array, take_digits, take_text};
 use crate::streams::Streamed;
 use json::{Reader as TokenReader, Token};
 use model::Verdict;
@@ -25,7 +25,7 @@ impl Streamed for bool {
 impl Streamed for u64 {
     fn from_tokens(_alloc: Global, reader: &mut TokenReader<'_>, _depth: usize) -> Option<u64> {
         let digits = take_digits(reader)?;
-        let number = whole_number(digits)?;
+        let number = parse_whole_number(digits)?;
         if number <= NUMBER_LIMIT {
             Some(number)
         } else {
@@ -63,7 +63,7 @@ impl Streamed for Verdict {
 impl<X: Streamed> Streamed for Items<X> {
     #[tactic(auto, using(crate::proofs::StreamListLemmas::takes_list))]
     fn from_tokens(alloc: Global, reader: &mut TokenReader<'_>, depth: usize) -> Option<Items<X>> {
-        if depth == 0 || !begin_array(reader) {
+        if depth == 0 || !take_begin_array(reader) {
             return None;
         }
         let items = take_each(alloc, reader, depth - 1)?;
@@ -96,7 +96,7 @@ pub(crate) fn take_pair(
 ) -> Option<(Bytes, Bytes)>
     ensures { IfSome result (λ pair. Takes pair_shape depth reader.old pair reader.new) }
 {
-    if depth == 0 || !begin_array(reader) {
+    if depth == 0 || !take_begin_array(reader) {
         return None;
     }
     let first = Bytes::from_tokens(alloc, reader, depth - 1)?;

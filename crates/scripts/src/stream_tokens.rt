@@ -1,4 +1,4 @@
-//! The tokens of a text, one after another.
+//! Taking a single token: a bracket, a text, digits.
 
 ghost use Rattle.std.specs.Prelude.{◌≡◌, ◌∷◌, IfSome, IsTrue, None, Some};
 ghost use Rattle.json.specs.Json.{read_key};
@@ -10,19 +10,19 @@ use fast_float::Numeral;
 use json::{Reader as TokenReader, Token};
 
 /// Takes the bracket that opens a list, if it comes next; and else takes what comes.
-pub fn begin_array(reader: &mut TokenReader<'_>) -> bool
+pub fn take_begin_array(reader: &mut TokenReader<'_>) -> bool
     ensures { IsTrue result → reader.old ≡ tokens.begin_array ∷ reader.new }
 {
     matches!(reader.next(), Some(Token::BeginArray))
 }
 
-pub(crate) fn begin_object(reader: &mut TokenReader<'_>) -> bool
+pub(crate) fn take_begin_object(reader: &mut TokenReader<'_>) -> bool
     ensures { IsTrue result → reader.old ≡ tokens.begin_object ∷ reader.new }
 {
     matches!(reader.next(), Some(Token::BeginObject))
 }
 
-pub(crate) fn end_object(reader: &mut TokenReader<'_>) -> bool
+pub(crate) fn take_end_object(reader: &mut TokenReader<'_>) -> bool
     ensures { IsTrue result → read_key reader.old ≡ Some (None, reader.new) }
 {
     matches!(reader.next_key(), Ok(None))
@@ -49,7 +49,7 @@ pub(crate) fn take_digits<'a>(reader: &mut TokenReader<'a>) -> Option<&'a str>
 }
 
 // The whole number that the text of a number writes without a sign, a point or an exponent.
-pub(crate) fn whole_number(text: &str) -> Option<u64>
+pub(crate) fn parse_whole_number(text: &str) -> Option<u64>
     ensures { IfSome result (λ n. number_of text.now ≡ Some (unsigned n)) }
 {
     let text = text.as_bytes();

@@ -1,5 +1,4 @@
-//! Values that are read, and what else is made, as the tokens of a text come, without a tree of JSON
-//! values.
+//! The traits of what is read from tokens, without a JSON value.
 
 ghost use Rattle.std.specs.Prelude.{◌≡◌, IfSome, Some, option_and_then};
 ghost use Rattle.serde_json.specs.Data.{Data};
@@ -14,12 +13,13 @@ use std::alloc::Global;
 // How deep lists and objects may nest: as deep as `serde_json` reads them.
 const DEPTH_LIMIT: usize = 127;
 
-/// What is read of the tokens of a JSON value of its shape.
+/// A type that is read from the tokens of a JSON value of its shape.
 pub trait Streamed: Shaped {
     /// Takes the tokens of one value, which may nest `depth` deep, and returns what it stands for.
     ///
-    /// Returns `None` if the value does not have the shape, if a field is repeated, if a number is
-    /// not written in digits alone, or if an allocation fails. Then `shaped` decides.
+    /// Returns `None` if the value does not have the shape, if a field is repeated, if a number
+    /// is not written in digits alone, or if an allocation fails. Then the caller reads the JSON
+    /// value.
     fn from_tokens(alloc: Global, reader: &mut TokenReader<'_>, depth: usize) -> Option<Self>
         ensures { IfSome result (λ found. Takes Self.shape depth reader.old found reader.new) };
 }

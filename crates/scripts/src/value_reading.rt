@@ -1,4 +1,4 @@
-//! Reading of JSON values.
+//! The JSON value of bytes, as `serde_json` reads it.
 
 ghost use Rattle.serde_json.specs.View.{view};
 ghost use Rattle.scripts.specs.ScriptFaults.{IsReadAs};

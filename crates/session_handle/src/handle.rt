@@ -1,4 +1,4 @@
-//! Handles of sessions.
+//! A handle: a pointer to a session, or null, with its ownership.
 
 ghost use Rattle.std.specs.Prelude.{◌≡◌, Option, option_map};
 ghost use Rattle.std.specs.declared.option.Option.TheVariants.{Some, None};

@@ -1,4 +1,4 @@
-//! Boxes as pointers.
+//! A box taken apart into its pointer and its allocator, and made again.
 
 ghost use Rattle.std.specs.Prelude.{◌≡◌};
 ghost use Rattle.std_alloc.specs.Box.Ownership.{box_owns};

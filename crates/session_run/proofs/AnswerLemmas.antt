@@ -1,5 +1,5 @@
 -- The answers to lines.
-use Rattle.std.proofs.Common.{◌≡◌, ℕ, List, [], ◌∷◌, ◌∙◌, ap, refl, sym, inl, inr, fold}
+use Rattle.std.proofs.Common.{◌≡◌, ℕ, List, [], ◌∷◌, ◌∙◌, ap, refl, sym, inl}
 use Rattle.std.specs.Prelude.{None, Result, Ok, Err, OnOk, IsSome}
 use Rattle.system_keys.specs.declared.memory.OutOfMemory.{OutOfMemory}
 use Rattle.system_keys.specs.AsSpecified.{IsFaultIfAllocated}
@@ -9,6 +9,7 @@ use Rattle.scripts.specs.Outputs.{refused_output}
 use Rattle.scripts.specs.ScriptFaults.{fault_number, script_fault}
 use Rattle.scripts.specs.declared.script_fault.ScriptFault.{ScriptFault}
 use Rattle.scripts.specs.declared.script_fault.ScriptFault.TheVariants as faults
+use Rattle.sessions.proofs.LawLemmas.{carried_out}
 use Rattle.sessions.specs.Answers.{Answers, CarriesOutSome, Rules, text_of_lines}
 use Rattle.session_run.specs.Session.{State, after_read, session_rules, with_empty_line, read_text}
 use Rattle.session_run.specs.declared.line.Line.{Line}
@@ -50,14 +51,5 @@ text_answers rules old (line ∷ given) =
     (now, (rules.answer old line, text_of_lines rules (rules.after old line) given, rules.after old line, refl, inl (refl, refl), rest))
 
 -- each line is carried out, or changes nothing
-carried_out : {S : Type 0} (rules : Rules S) (old new : S) (lines : List (List ℕ)) (text : List ℕ) → Answers rules old lines text new → CarriesOutSome rules old lines new
-carried_out rules old new [] text answers = ([], refl, answers.1)
-carried_out rules old new (line ∷ lines) text answers =
-    let (kept, some, now) = carried_out rules answers.2 new lines answers.1 answers.5 in
-    elim answers.4 [
-      | inl told ↦ (line ∷ kept, inr (kept, refl, some), now ∙ ap (λ s. fold rules.after s kept) told.1)
-      | inr lost ↦ (kept, inl some, now ∙ ap (λ s. fold rules.after s kept) lost.1)
-    ]
-
 pub carries_out_some : (old new : State) (lines : List (List ℕ)) (text : List ℕ) → Answers session_rules old lines text new → CarriesOutSome session_rules old lines new
 carries_out_some = carried_out session_rules

@@ -1,10 +1,12 @@
 -- A session over a source and a sink.
-use Rattle.std.proofs.Common.{◌≡◌, IfSome, None, Option, Some}
+use Rattle.std.proofs.Common.{◌≡◌, ℕ, IfSome, List, None, Option, Some, subst}
+use Rattle.std.specs.Io.KnownBytes.{Appends, Consumes}
 use Rattle.std.specs.Prelude.{MatchOption}
 use Rattle.model.specs.Serial.{IsSerial}
 use Rattle.model.specs.Turns.{TurnCluster}
-use Rattle.sessions.specs.Events.{View}
-use Rattle.sessions.specs.Sessions.{AnswersWhole, IsSession}
+use Rattle.sessions.proofs.Corollaries.{in_turn_at, whole_run}
+use Rattle.sessions.specs.Events.{Event, View, bytes_came, bytes_written}
+use Rattle.sessions.specs.Sessions.{AnswersBeforeReads, AnswersWhole, IsAnsweredAtReads, IsSession}
 use Rattle.sessions.specs.declared.status.SessionStatus.{SessionStatus}
 use Rattle.session_run.specs.Runs.{AnswersInput, RunsSession}
 use Rattle.session_run.specs.Session.{State, session_rules}
@@ -34,3 +36,12 @@ runs old new now status session serial =
 
 pub answers : {N : Type 0} (old new : View N) (now : State) (status : SessionStatus) → AnswersWhole session_rules None now old new status → AnswersInput old.remaining old.written new.written status
 answers old new now status whole = (now, whole)
+
+-- ---- what follows of a run
+
+pub runs_in_turn : (input rest old new : Option (List ℕ)) (status : SessionStatus) → RunsSession input rest old new status
+    → (events : List Event) × Consumes input rest (bytes_came events) × Appends old new (bytes_written events) × IsAnsweredAtReads session_rules None events
+runs_in_turn input rest old new status run = (run.events, run.read, run.written, λ after before event is split. in_turn_at session_rules None after before event is (subst (AnswersBeforeReads session_rules None) split run.in_turn))
+
+pub runs_answer : (input rest old new : Option (List ℕ)) (status : SessionStatus) → RunsSession input rest old new status → AnswersInput input old new status
+runs_answer input rest old new status run = (run.now, whole_run session_rules None run.now input rest old new status run.events run.read run.end run.written run.ends)

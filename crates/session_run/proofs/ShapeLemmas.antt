@@ -1,11 +1,13 @@
 -- What is read of the value of a line.
 use Rattle.serde_json.specs.Data.{Data}
-use Rattle.std.proofs.Common.{◌≡◌, refl, Result, Ok, Err, Option, Some, None, true, false}
+use Rattle.model.specs.Configs.{Config}
+use Rattle.std.proofs.Common.{◌≡◌, codes, option_map, refl, Result, Ok, Err, Option, Some, None, true, false}
 use Rattle.scripts.specs.ScriptFaults.{IsReadAs}
-use Rattle.scripts.specs.Shapes.{or_bad_shape}
+use Rattle.scripts.specs.Shapes.{◌>>=◌, or_bad_shape}
 use Rattle.scripts.specs.declared.script_fault.ScriptFault.{ScriptFault}
 use Rattle.scripts.specs.declared.script_fault.ScriptFault.TheVariants as faults
-use Rattle.session_run.specs.Shapes.{first_line, is_bad_shape, line_shape}
+use Rattle.session_run.specs.Shapes.{cluster_shape, first_line, is_bad_shape, line_shape, show_shape, with_field}
+use Rattle.session_run.specs.declared.line.Show.{Show as Shown}
 use Rattle.turns_run.specs.Shapes.{event_shape}
 use Rattle.turns_run.specs.declared.script.RawEvent.{RawEvent}
 use Rattle.session_run.specs.declared.line.RawLine.TheVariants as raw
@@ -39,3 +41,19 @@ reads_other (Err faults.OutOfMemory) event other result is same fine = absurd (l
 -- an event of a script as a line
 pub event_is_line : (d : Data) (event : RawEvent) → event_shape d ≡ Some event → line_shape d ≡ Some (raw.Event event)
 event_is_line d event is = rw is refl
+
+-- ---- lines that are no events
+
+cluster_read : (config : Option Config) → first_line None (config >>= (λ (c : Config). Some (raw.Cluster c))) ≡ option_map raw.Cluster config
+cluster_read None = refl
+cluster_read (Some config) = refl
+
+pub cluster_is_line : (numbers : Data) → line_shape (with_field (codes "cluster") numbers) ≡ option_map raw.Cluster (cluster_shape numbers)
+cluster_is_line numbers = cluster_read (cluster_shape numbers)
+
+show_read : (shown : Option Shown) → first_line None (shown >>= (λ (s : Shown). Some (raw.Show s))) ≡ option_map raw.Show shown
+show_read None = refl
+show_read (Some shown) = refl
+
+pub show_is_line : (shown : Data) → line_shape (with_field (codes "show") shown) ≡ option_map raw.Show (show_shape shown)
+show_is_line shown = show_read (show_shape shown)

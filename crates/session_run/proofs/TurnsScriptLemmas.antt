@@ -111,6 +111,13 @@ script_answered script lines_given asks =
       answers = ap (answers_to session_rules None) asks.all ∙ first ∙ ap (λ l. with_empty_line cluster_text ∷ l) (answered ∙ sym (map-append with_empty_line events shows));
     }
 
+pub lines_answered : (script : TurnsScript) (first : List ℕ) (events shows : List (List ℕ)) → line_of first ≡ Ok (lines.Cluster script.config)
+    → map line_of events ≡ map (λ event. Ok (lines.Event event)) script.events
+    → map line_of shows ≡ map (λ p. Ok (lines.Show (record { proxy = p; ask = script.ask }))) (each_below script.config.proxies)
+    → AnswersScript script (first ∷ (events ++ shows))
+lines_answered script first events shows begins carries_out shows_each =
+    script_answered script (first ∷ (events ++ shows)) (record { first = first; events = events; shows = shows; all = refl; begins = begins; carries_out = carries_out; shows_each = shows_each })
+
 -- ---- the same of bytes
 
 text_of_script : (bytes : List ℕ) (script : TurnsScript) → script_of bytes ≡ Ok script → (turns_text bytes).text ≡ printed_text script

@@ -5,7 +5,8 @@ use Rattle.model.specs.Serial.{IsSerial}
 use Rattle.model.specs.Turns.{TurnCluster}
 use Rattle.scripts.specs.Devices.{IsIncremented}
 use Rattle.sessions.specs.Events.{Event, HasEnded, bytes_came, bytes_written}
-use Rattle.sessions.specs.Sessions.{AnswersBeforeReads, AnswersKnown, MatchesStatus, NeverAhead}
+use Rattle.sessions.specs.Sessions.{AnswersBeforeReads, AnswersKnown, IsAnsweredAtReads}
+use Rattle.sessions.specs.Sessions.{MatchesStatus, NeverAhead}
 use Rattle.sessions.specs.declared.status.SessionStatus.{SessionStatus}
 use Rattle.session_run.specs.Session.{State, session_rules}
 
@@ -31,6 +32,20 @@ pub record RunsSession
 abbrev pub AnswersInput : Option (List ℕ) → Option (List ℕ) → Option (List ℕ) → SessionStatus → Type 0
 AnswersInput input old new status =
     (now : State) × AnswersKnown session_rules None now input old new status
+
+-- what a run read and wrote: wherever it read, the lines that were whole by then had been answered, and no more
+-- was written
+abbrev pub RunsInTurn : Type 0
+RunsInTurn =
+    (input rest old new : Option (List ℕ)) (status : SessionStatus) → RunsSession input rest old new status
+    → (events : List Event) × Consumes input rest (bytes_came events) × Appends old new (bytes_written events)
+    × IsAnsweredAtReads session_rules None events
+
+-- a run that is done has answered each line of a known input
+abbrev pub RunsAnswerInput : Type 0
+RunsAnswerInput =
+    (input rest old new : Option (List ℕ)) (status : SessionStatus) → RunsSession input rest old new status
+    → AnswersInput input old new status
 
 -- a read failed, or a write, by the counts of failed reads and of failed writes
 abbrev pub ReadFails : ℕ × ℕ → ℕ × ℕ → Type 0

@@ -8,7 +8,7 @@ use Rattle.system_keys.specs.Keys.{Key}
 use Rattle.scripts.specs.Outputs.{refused_output}
 use Rattle.scripts.specs.Lines.{line, refused_line}
 use Rattle.scripts.specs.declared.script_fault.ScriptFault.{ScriptFault}
-use Rattle.sessions.specs.Answers.{Answers, CarriesOutSome, Rules, text_of_lines}
+use Rattle.sessions.specs.Answers.{Answers, Rules, text_of_lines}
 use Rattle.sessions.specs.Lines.{lines_of}
 use Rattle.turn_world.specs.Events.{event_of}
 use Rattle.turn_world.specs.declared.refusal.Refusal.TheVariants as refusals
@@ -94,9 +94,3 @@ abbrev pub TextAnswersLines : Type 0
 TextAnswersLines =
     (bytes : List ℕ)
     → (now : State) × Answers session_rules None (lines_of bytes) (session_text bytes) now
-
--- a line is carried out whole or not at all
-abbrev pub LinesOrNothing : Type 0
-LinesOrNothing =
-    (old new : State) (lines_given : List (List ℕ)) (text : List ℕ)
-    → Answers session_rules old lines_given text new → CarriesOutSome session_rules old lines_given new

@@ -1,7 +1,8 @@
 -- The form of a line: an object has all its fields and no other, in any order, and the numbers of a
 -- cluster are within their limits (this project's profile).
-use Rattle.std.specs.Prelude.{◌≡◌, codes, if◌then◌else◌, Option, Some, None, Result, Err, Bool, true, false}
-use Rattle.serde_json.specs.Data.{Data}
+use Rattle.std.specs.Prelude.{◌≡◌, ℕ, List, codes, if◌then◌else◌, Option, Some, None, option_map}
+use Rattle.std.specs.Prelude.{Result, Err, Bool, true, false}
+use Rattle.serde_json.specs.Data.{Data, member, no_members, object}
 use Rattle.serde_json.specs.Find.{get}
 use Rattle.model.specs.Configs.{Config}
 use Rattle.cluster_scripts.specs.Shapes.{config_shape}
@@ -74,3 +75,19 @@ is_bad_shape read = false
 abbrev pub EventsAreLines : Type 0
 EventsAreLines =
     (d : Data) (event : RawEvent) → event_shape d ≡ Some event → line_shape d ≡ Some (Event event)
+
+-- an object whose only field has this name
+abbrev pub with_field : List ℕ → Data → Data
+with_field name value = object (member name value no_members)
+
+-- `{"cluster":..}` is a line exactly if the numbers are those of a cluster, and begins it
+abbrev pub ClustersAreLines : Type 0
+ClustersAreLines =
+    (numbers : Data)
+    → line_shape (with_field (codes "cluster") numbers) ≡ option_map Cluster (cluster_shape numbers)
+
+-- `{"show":..}` is a line exactly if the value is a show, and asks for it
+abbrev pub ShowsAreLines : Type 0
+ShowsAreLines =
+    (shown : Data)
+    → line_shape (with_field (codes "show") shown) ≡ option_map Show (show_shape shown)

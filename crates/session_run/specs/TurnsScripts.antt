@@ -44,6 +44,17 @@ LinesGiveTurns =
     (script : TurnsScript) (lines_given : List (List ℕ)) → AsksForScript script lines_given
     → AnswersScript script lines_given
 
+-- lines of which the first begins the cluster of a script, the next carry out its events and the last show each
+-- proxy are answered with its text
+abbrev pub LinesInOrderGiveTurns : Type 0
+LinesInOrderGiveTurns =
+    (script : TurnsScript) (first : List ℕ) (events shows : List (List ℕ))
+    → line_of first ≡ Ok (lines.Cluster script.config)
+    → map line_of events ≡ map (λ event. Ok (lines.Event event)) script.events
+    → map line_of shows
+    ≡ map (λ p. Ok (lines.Show (record { proxy = p; ask = script.ask }))) (each_below script.config.proxies)
+    → AnswersScript script (first ∷ (events ++ shows))
+
 -- The same of bytes: the text of a session is that of turns in parts, an empty line after each, behind the answer to
 -- the cluster.
 abbrev pub SessionGivesTurns : Type 0

@@ -1,4 +1,4 @@
-//! The texts of answers.
+//! The answer to a line that has a fault.
 
 ghost use Rattle.std.specs.Prelude.{[], IsSome, OnErr, OnOk};
 ghost use Rattle.pages.specs.Printing.{Prints};

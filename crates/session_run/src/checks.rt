@@ -1,4 +1,4 @@
-//! The checks of a line.
+//! The check of a line: of its event.
 
 ghost use Rattle.session_run.specs.Lines.{checked_line};
 

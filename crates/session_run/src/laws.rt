@@ -1,17 +1,26 @@
-//! Laws of the text of a session.
-ghost use Rattle.session_run.specs.Session.{LinesOrNothing, TextAnswersLines};
-ghost use Rattle.session_run.specs.Shapes.{EventsAreLines};
-ghost use Rattle.session_run.specs.TurnsScripts.{LinesGiveTurns, SessionGivesTurns};
+//! Laws of the text of a session: it answers all lines, and the events of a turns script have the
+//! answers of that script.
+ghost use Rattle.session_run.specs.Runs.{RunsAnswerInput, RunsInTurn};
+ghost use Rattle.session_run.specs.Session.{TextAnswersLines, session_rules};
+ghost use Rattle.session_run.specs.Shapes.{ClustersAreLines, EventsAreLines, ShowsAreLines};
+ghost use Rattle.session_run.specs.TurnsScripts.{LinesGiveTurns, LinesInOrderGiveTurns};
+ghost use Rattle.session_run.specs.TurnsScripts.{SessionGivesTurns};
+ghost use Rattle.sessions.specs.Laws.{LinesOrNothing};
 
 /// A law: the text of a session answers all lines of its input, by the rules.
-pub fn text_answers_lines()
+pub fn text_answers_lines_law()
     ensures { TextAnswersLines }
 {}
 
 /// A law: if the lines of a session begin the cluster of a turns script, carry out its events and then
 /// show each proxy, then the answers, without their empty lines, are the text of the script.
-pub fn lines_give_turns()
+pub fn lines_give_turns_law()
     ensures { LinesGiveTurns }
+{}
+
+/// A law: the same, of lines of which each is said to be what it asks.
+pub fn lines_in_order_give_turns()
+    ensures { LinesInOrderGiveTurns }
 {}
 
 /// A law: the same of bytes, between the text of a session and that of turns.
@@ -24,8 +33,22 @@ pub fn events_are_lines()
     ensures { EventsAreLines }
 {}
 
+/// A law: an object with the only field `cluster` or `show` is a line if its value has the form of one,
+/// and never an event.
+pub fn other_lines_law()
+    ensures clusters { ClustersAreLines }
+    ensures shows { ShowsAreLines }
+{}
+
+/// A law: a run over a source and a sink answered in turn; and once it is done, it has answered each line
+/// of a known input.
+pub fn runs_answer_law()
+    ensures in_turn { RunsInTurn }
+    ensures input { RunsAnswerInput }
+{}
+
 /// A law: a line is carried out whole or not at all, so the state at the end is that after some of the
 /// lines, in order.
 pub fn lines_or_nothing()
-    ensures { LinesOrNothing }
+    ensures { LinesOrNothing session_rules }
 {}

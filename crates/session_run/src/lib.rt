@@ -6,17 +6,18 @@
 
 mod answers;
 mod checks;
-mod joined;
 mod laws;
 mod line;
 mod reading;
 mod run;
 mod session;
 mod shapes;
+mod source_and_sink;
 mod streams;
 
 pub use laws::{
-    events_are_lines, lines_give_turns, lines_or_nothing, session_gives_turns, text_answers_lines,
+    events_are_lines, lines_give_turns_law, lines_in_order_give_turns, lines_or_nothing,
+    other_lines_law, runs_answer_law, session_gives_turns, text_answers_lines_law,
 };
 pub use line::{Line, Show};
 pub use reading::read_line;

@@ -1,4 +1,5 @@
-//! The lines of a session.
+//! What a line asks: a new cluster, an event or a proxy to show; checked, or as it is written
+//! (`Raw`).
 
 use model::{Config, ProxyNumber};
 use system_keys::{Bytes, Items};

@@ -1,4 +1,4 @@
-//! Reading of lines.
+//! Reading a line: by its tokens, else by its JSON value.
 
 ghost use Rattle.scripts.specs.ScriptFaults.{IsReadAs};
 ghost use Rattle.session_run.specs.Lines.{line_of};

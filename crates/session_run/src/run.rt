@@ -4,8 +4,8 @@ ghost use Rattle.std.specs.Prelude.{◌≡◌};
 ghost use Rattle.session_run.specs.Runs.{AnswersInput, ReadFails, RunsSession, WriteFails};
 ghost use Rattle.sessions.specs.Sessions.{LeavesFailures};
 
-use crate::joined::Joined;
 use crate::session::Session;
+use crate::source_and_sink::SourceAndSink;
 use scripts::{Sink, Source};
 use sessions::{SessionStatus, answer_lines};
 use std::alloc::Global;
@@ -22,11 +22,11 @@ pub fn run_session<S: Source, T: Sink>(alloc: Global, source: &mut S, sink: &mut
         (S.failed source.new, T.failed sink.new) result }
 {
     let mut session = Session::new();
-    let mut joined = Joined { source, sink };
+    let mut joined = SourceAndSink { source, sink };
     let status = answer_lines(alloc, &mut session, &mut joined);
     // (gives the proof that its records obey the rule of commit)
     let _ = session.cluster();
-    let Joined { source, sink } = joined;
+    let SourceAndSink { source, sink } = joined;
     let _ = &*source;
     let _ = &*sink;
     status

@@ -1,4 +1,4 @@
-//! A session with a cluster without threads.
+//! A session: it begins clusters, carries out events and shows proxies, and prints the answers.
 
 ghost use Rattle.std.specs.Prelude.{◌≡◌, ◌++◌, [], IfSome, MatchOption, None, OnErr, OnOk};
 ghost use Rattle.std.specs.Prelude.{Option, Some};
@@ -184,7 +184,7 @@ fn print_show<P: Page>(
     ensures unprinted { OnErr result (Prints P.has_printed page.old page.new []) }
 {
     match cluster.proxy(show.proxy) {
-        Some(proxy) => print_found(alloc, proxy, show, page),
+        Some(proxy) => print_found_proxy(alloc, proxy, show, page),
         None => {
             print_refusal(page, &Refusal::NoSuchProxy);
             Ok(())
@@ -193,7 +193,7 @@ fn print_show<P: Page>(
 }
 
 /// Prints a proxy that the cluster has.
-fn print_found<P: Page>(
+fn print_found_proxy<P: Page>(
     alloc: Global,
     proxy: &Proxy,
     show: &Show,

@@ -1,4 +1,4 @@
-//! What is read of the values of lines.
+//! Lines of a session from JSON values.
 
 ghost use Rattle.std.specs.Prelude.{◌≡◌};
 ghost use Rattle.serde_json.specs.View.{view};

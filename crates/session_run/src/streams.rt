@@ -1,4 +1,4 @@
-//! Lines, as their tokens come.
+//! Lines of a session from tokens.
 
 use crate::line::RawLine;
 use json::Reader as TokenReader;

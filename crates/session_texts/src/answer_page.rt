@@ -1,4 +1,4 @@
-//! The page of an answer.
+//! The page in memory to which an answer is printed.
 
 ghost use Rattle.std.specs.Prelude.{◌≡◌, ◌<◌, [], ℕ, List, IfOk, MatchOption, length};
 ghost use Rattle.session_texts.specs.Pages.{HoldsAnswer};

@@ -1,4 +1,4 @@
-//! The statuses of calls on a session, and where an answer is placed that a caller gave room for.
+//! The statuses of calls on a session, and copying an answer into the caller's buffer.
 
 ghost use Rattle.session_texts.specs.Placing.{PlacesAnswer};
 

@@ -2,7 +2,7 @@
 use Rattle.std.proofs.Common.{◌≡◌, ◌≢◌, ℕ, List, [], ◌∷◌, ◌++◌, ◌==◌, true, false, cond, refl, ap, ◌∙◌, append-nil, append_assoc, sym, inl, inr, flat_map}
 use Rattle.std.proofs.lemmas.Bool.{ne_eqb}
 use Rattle.std.proofs.lemmas.Bool.Decides.{eqb_tells}
-use Rattle.sessions.specs.Lines.{HasNoFeed, Splits, closed, line_end, lines_from, lines_of, open_from, open_line_of, whole_lines}
+use Rattle.sessions.specs.Lines.{HasNoFeed, HaveNoFeed, Splits, closed, line_end, lines_from, lines_of, open_from, open_line_of, whole_lines}
 
 -- a piece after another
 pub lines_append : (open_line xs ys : List ℕ) → lines_from open_line (xs ++ ys) ≡ lines_from open_line xs ++ lines_from (open_from open_line xs) ys
@@ -111,3 +111,32 @@ pub last_line : (bytes line : List ℕ)
     → (lines_of (bytes ++ 10 ∷ []) ≡ whole_lines (bytes ++ 10 ∷ []))
     × (HasNoFeed line → line ≢ [] → lines_of ((bytes ++ 10 ∷ []) ++ line) ≡ whole_lines (bytes ++ 10 ∷ []) ++ line ∷ [])
 last_line bytes line = (ap whole_lines (closed_whole bytes), last_open_line bytes line)
+
+-- ---- other lines with the same bytes
+
+first_line : (line rest : List ℕ) → HasNoFeed line → (whole_lines ((line ++ 10 ∷ []) ++ rest) ≡ line ∷ whole_lines rest) × (open_line_of ((line ++ 10 ∷ []) ++ rest) ≡ open_line_of rest)
+first_line line rest none =
+    let one : whole_lines (line ++ 10 ∷ []) ≡ line ∷ [] = lines_append [] line (10 ∷ []) ∙ ap (λ l. l ++ open_line_of line ∷ []) (lines_plain [] line none) ∙ ap (λ l. l ∷ []) (open_plain [] line none) in (
+      lines_append [] (line ++ 10 ∷ []) rest ∙ ap (λ l. l ++ lines_from (open_line_of (line ++ 10 ∷ [])) rest) one ∙ ap (λ l. line ∷ lines_from l rest) (open_after_feed line),
+      open_append [] (line ++ 10 ∷ []) rest ∙ ap (λ l. open_from l rest) (open_after_feed line),
+    )
+
+abbrev with_feeds : List (List ℕ) → List ℕ
+with_feeds lines = flat_map (λ line. line ++ 10 ∷ []) lines
+
+split_again : (lines : List (List ℕ)) (open_line : List ℕ) → HaveNoFeed lines → HasNoFeed open_line
+    → (lines ≡ whole_lines (with_feeds lines ++ open_line)) × (open_line ≡ open_line_of (with_feeds lines ++ open_line))
+split_again [] open_line each last = (sym (lines_plain [] open_line last), sym (open_plain [] open_line last))
+split_again (line ∷ lines) open_line each last =
+    let rest = with_feeds lines ++ open_line in
+    let others = split_again lines open_line each.1 last in
+    let first = first_line line rest each.0 in
+    let parts : (line ++ 10 ∷ []) ++ rest ≡ with_feeds (line ∷ lines) ++ open_line = sym (append_assoc (line ++ 10 ∷ []) (with_feeds lines) open_line) in (
+      ap (λ l. line ∷ l) others.0 ∙ sym first.0 ∙ ap whole_lines parts,
+      others.1 ∙ sym first.1 ∙ ap open_line_of parts,
+    )
+
+pub one_split : (bytes : List ℕ) (lines : List (List ℕ)) (open_line : List ℕ) → Splits bytes lines open_line → (lines ≡ whole_lines bytes) × (open_line ≡ open_line_of bytes)
+one_split bytes lines open_line splits =
+    let again = split_again lines open_line splits.each splits.last in
+    (again.0 ∙ ap whole_lines (sym splits.whole), again.1 ∙ ap open_line_of (sym splits.whole))

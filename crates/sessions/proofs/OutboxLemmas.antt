@@ -169,11 +169,9 @@ bytes_answered {rules = rules} {start = start} {now = now} {open_line = open_lin
     record {
       text = sent.written;
       unwritten = sent.unwritten;
-      end = now;
       wrote = sent.wrote;
       answers = subst (λ l. Answers rules start (lines_from open_line bytes) l now) (sym (sent.all ∙ append-nil text)) answers;
       all = (sent.unfailed unfailed).0 ∙ none;
-      state = refl;
       kept = held;
     }
 
@@ -185,11 +183,9 @@ bytes_unwritten {rules = rules} {start = start} {now = now} {open_line = open_li
     record {
       text = sent.written;
       unwritten = sent.unwritten;
-      end = now;
       wrote = sent.wrote;
       answers = subst (λ l. Answers rules start (lines_from open_line bytes) l now) (sym (sent.all ∙ append-nil text)) answers;
       all = tt;
-      state = tt;
       kept = tt;
     }
 
@@ -204,7 +200,7 @@ pub nothing_answered : {S N : Type 0} (rules : Rules S) (start : S) (view : View
     → AnswersBytes rules start start view view open_line (line_end open_line) pending (Ok tt)
 nothing_answered rules start view open_line pending none held =
     let P : List ℕ → Type 0 = λ line. Holds pending line → AnswersBytes rules start start view view line (line_end line) pending (Ok tt) in
-    subst P (sym none) (λ holds. record { text = []; unwritten = []; end = start; wrote = writes_nothing view; answers = (refl, refl); all = refl; state = refl; kept = holds }) held
+    subst P (sym none) (λ holds. record { text = []; unwritten = []; wrote = writes_nothing view; answers = (refl, refl); all = refl; kept = holds }) held
 
 pub line_end_some : (open_line : List ℕ) → open_line ≢ [] → 10 ∷ [] ≡ line_end open_line
 line_end_some [] some = absurd (some refl)

@@ -5,7 +5,7 @@ use Rattle.sessions.specs.Events.{Event, Read, End, Wrote, View, GoesOnBy, HasEn
 use Rattle.sessions.specs.Feeds.{AnswersBytes}
 use Rattle.sessions.specs.Lines.{lines_from, open_from, whole_lines, open_line_of, line_end, closed}
 use Rattle.sessions.specs.Pending.{Holds}
-use Rattle.sessions.specs.Sessions.{HasAnswered, AnswersBeforeReads, NeverAhead, IsSession}
+use Rattle.sessions.specs.Sessions.{HasAnswered, AnswersBeforeReads, NeverAhead, IsRead, IsSession}
 use Rattle.sessions.specs.declared.pending.Pending.{Pending}
 use Rattle.sessions.specs.declared.status.SessionStatus.TheVariants.{Done, ReadFailed, WriteFailed, Unended}
 use Rattle.sessions.specs.declared.device.Failed.{Failed}
@@ -110,34 +110,56 @@ stands_on rules start now next old mid came new pending after calls bytes some s
     let es = stands.events in
     let fed = feeds (open_line_of (bytes_read es)) stands.kept in
     let (ws, wrote, writes) = fed.wrote in
-    let done = taken rules start now fed.end (Read bytes) es ws bytes fed.text fed.unwritten refl refl ((now, stands.answered), stands.in_turn) stands.never_ahead stands.answered writes fed.answers in
+    let done = taken rules start now next (Read bytes) es ws bytes fed.text fed.unwritten refl refl ((now, stands.answered), stands.in_turn) stands.never_ahead stands.answered writes fed.answers in
     record {
       events = ws ++ Read bytes ∷ es;
       leads = goes_on_by_more old came new (Read bytes ∷ es) ws (goes_on_by_more old mid came es (Read bytes ∷ []) stands.leads grew) wrote;
       in_turn = done.in_turn;
       never_ahead = done.never_ahead;
-      answered = subst (HasAnswered rules start (ws ++ Read bytes ∷ es)) (sym fed.state) (whole rules start fed.end (ws ++ Read bytes ∷ es) fed.unwritten done.answers fed.all);
+      answered = whole rules start next (ws ++ Read bytes ∷ es) fed.unwritten done.answers fed.all;
       kept = subst (Holds after) (sym done.open_line) fed.kept;
       not_ended = read_before_writes (Read bytes ∷ es) ws fed.text writes ∙ ap (λ l. l ++ bytes) stands.not_ended ∙ sym (came_before_writes (Read bytes ∷ es) ws fed.text writes);
       counted = reads_before_writes (Read bytes ∷ es) ws fed.text writes ∙ reads_one_more bytes es some ∙ ap (λ n. n + 1) stands.counted;
     }
 
--- a write failed after bytes came
-pub session_fails : {S N : Type 0} (rules : Rules S) (start now next : S) (old mid came new : View N) (pending after : Pending) (calls : ℕ) (bytes : List ℕ) (result : Result (Unit {0}) Failed)
-    → Standing rules start now old mid pending calls → GoesOnBy mid came (Read bytes ∷ [])
-    → ((open_line : List ℕ) → Holds pending open_line → AnswersBytes rules now next came new open_line bytes after result)
+-- what an event of a read adds to the bytes before it, after which a line is open
+abbrev pub brings : Event → List ℕ → List ℕ
+brings (Read bytes) open_line = bytes
+brings End open_line = line_end open_line
+brings (Wrote bytes) open_line = []
+
+brought : (event : Event) (es : List Event) → bytes_read (event ∷ es) ≡ bytes_read es ++ brings event (open_line_of (bytes_read es))
+brought (Read bytes) es = refl
+brought End es = refl
+brought (Wrote bytes) es = sym (append-nil (bytes_read es))
+
+silent : (event : Event) (es : List Event) → IsRead event → bytes_written (event ∷ es) ≡ bytes_written es
+silent (Read bytes) es is = refl
+silent End es is = refl
+silent (Wrote bytes) es is = absurd is
+
+turns : {S : Type 0} (rules : Rules S) (start now : S) (event : Event) (es : List Event) → IsRead event → HasAnswered rules start es now → AnswersBeforeReads rules start es → AnswersBeforeReads rules start (event ∷ es)
+turns rules start now (Read bytes) es is answered in_turn = ((now, answered), in_turn)
+turns rules start now End es is answered in_turn = ((now, answered), in_turn)
+turns rules start now (Wrote bytes) es is answered in_turn = absurd is
+
+-- after a read, or at the end of the input, a write failed
+pub session_fails : {S N : Type 0} (rules : Rules S) (start now next : S) (old mid came new : View N) (pending after : Pending) (calls : ℕ) (event : Event) (result : Result (Unit {0}) Failed)
+    → IsRead event → Standing rules start now old mid pending calls → GoesOnBy mid came (event ∷ [])
+    → ((open_line : List ℕ) → Holds pending open_line → AnswersBytes rules now next came new open_line (brings event open_line) after result)
     → IsSession rules start next old new WriteFailed
-session_fails rules start now next old mid came new pending after calls bytes result stands grew feeds =
+session_fails rules start now next old mid came new pending after calls event result is stands grew feeds =
     let es = stands.events in
     let fed = feeds (open_line_of (bytes_read es)) stands.kept in
     let (ws, wrote, writes) = fed.wrote in
-    let done = taken rules start now fed.end (Read bytes) es ws bytes fed.text fed.unwritten refl refl ((now, stands.answered), stands.in_turn) stands.never_ahead stands.answered writes fed.answers in
+    let done = taken rules start now next event es ws (brings event (open_line_of (bytes_read es))) fed.text fed.unwritten (brought event es) (silent event es is) (turns rules start now event es is stands.answered stands.in_turn)
+    stands.never_ahead stands.answered writes fed.answers in
     record {
-      events = ws ++ Read bytes ∷ es;
-      leads = goes_on_by_more old came new (Read bytes ∷ es) ws (goes_on_by_more old mid came es (Read bytes ∷ []) stands.leads grew) wrote;
+      events = ws ++ event ∷ es;
+      leads = goes_on_by_more old came new (event ∷ es) ws (goes_on_by_more old mid came es (event ∷ []) stands.leads grew) wrote;
       in_turn = done.in_turn;
       never_ahead = done.never_ahead;
-      ends = tt;
+      ends = (fed.unwritten, done.answers);
     }
 
 -- the input ended, and the open line was answered
@@ -150,7 +172,7 @@ session_done rules start now next old mid came new pending after calls stands gr
     let fed = feeds (open_line_of (bytes_read es)) stands.kept in
     let (ws, wrote, writes) = fed.wrote in
     let bytes = line_end (open_line_of (bytes_read es)) in
-    let done = taken rules start now fed.end End es ws bytes fed.text fed.unwritten refl refl ((now, stands.answered), stands.in_turn) stands.never_ahead stands.answered writes fed.answers in
+    let done = taken rules start now next End es ws bytes fed.text fed.unwritten refl refl ((now, stands.answered), stands.in_turn) stands.never_ahead stands.answered writes fed.answers in
     record {
       events = ws ++ End ∷ es;
       leads = goes_on_by_more old came new (End ∷ es) ws (goes_on_by_more old mid came es (End ∷ []) stands.leads grew) wrote;
@@ -159,27 +181,8 @@ session_done rules start now next old mid came new pending after calls stands gr
       ends = (
         ended_writes (End ∷ es) ws fed.text writes tt,
         read_before_writes (End ∷ es) ws fed.text writes ∙ ap closed stands.not_ended ∙ ap closed (sym (came_before_writes (End ∷ es) ws fed.text writes)),
-        subst (HasAnswered rules start (ws ++ End ∷ es)) (sym fed.state) (whole rules start fed.end (ws ++ End ∷ es) fed.unwritten done.answers fed.all),
+        whole rules start next (ws ++ End ∷ es) fed.unwritten done.answers fed.all,
       );
-    }
-
--- a write failed after the input ended
-pub session_fails_at_end : {S N : Type 0} (rules : Rules S) (start now next : S) (old mid came new : View N) (pending after : Pending) (calls : ℕ) (result : Result (Unit {0}) Failed)
-    → Standing rules start now old mid pending calls → GoesOnBy mid came (End ∷ [])
-    → ((open_line : List ℕ) → Holds pending open_line → AnswersBytes rules now next came new open_line (line_end open_line) after result)
-    → IsSession rules start next old new WriteFailed
-session_fails_at_end rules start now next old mid came new pending after calls result stands grew feeds =
-    let es = stands.events in
-    let fed = feeds (open_line_of (bytes_read es)) stands.kept in
-    let (ws, wrote, writes) = fed.wrote in
-    let bytes = line_end (open_line_of (bytes_read es)) in
-    let done = taken rules start now fed.end End es ws bytes fed.text fed.unwritten refl refl ((now, stands.answered), stands.in_turn) stands.never_ahead stands.answered writes fed.answers in
-    record {
-      events = ws ++ End ∷ es;
-      leads = goes_on_by_more old came new (End ∷ es) ws (goes_on_by_more old mid came es (End ∷ []) stands.leads grew) wrote;
-      in_turn = done.in_turn;
-      never_ahead = done.never_ahead;
-      ends = tt;
     }
 
 -- a read failed

@@ -23,15 +23,13 @@ pub record Feeds {S P O : Type 0} (rules : Rules S) (has_printed : P → O → L
   pub printed : Prints has_printed old new text
   pub held : Holds pending (open_from open_line bytes)
 
--- the lines that these bytes end were answered; or a beginning of the answers was written, if a
--- write failed
+-- The lines that these bytes end were answered, and the state is that after them; or a beginning of the
+-- answers was written, if a write failed.
 pub record AnswersBytes {S N : Type 0} (rules : Rules S) (start now : S) (old new : View N)
     (open_line bytes : List ℕ) (pending : Pending) (result : Result (Unit {0}) Failed) : Type 0 where
   pub text : List ℕ
   pub unwritten : List ℕ
-  pub end : S
   pub wrote : WritesText old new text
-  pub answers : Answers rules start (lines_from open_line bytes) (text ++ unwritten) end
+  pub answers : Answers rules start (lines_from open_line bytes) (text ++ unwritten) now
   pub all : OnOk result (unwritten ≡ [])
-  pub state : OnOk result (now ≡ end)
   pub kept : OnOk result (Holds pending (open_from open_line bytes))

@@ -16,3 +16,5 @@ pub mod Pending
 pub mod Outboxes
 -- the number that a process ends with
 pub mod Statuses
+-- what follows of them
+pub mod Laws

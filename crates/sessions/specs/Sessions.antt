@@ -42,12 +42,14 @@ LeavesFailures read_fails write_fails old new ReadFailed = read_fails old new
 LeavesFailures read_fails write_fails old new WriteFailed = write_fails old new
 LeavesFailures read_fails write_fails old new Unended = new ≡ old
 
--- how it ended: all is answered, unless a write failed
+-- How it ended: all is answered. If a write failed, what is written begins the answers, and the state is still that
+-- after the lines.
 abbrev pub MatchesStatus : {S : Type 0} → Rules S → S → List Event → S → SessionStatus → Type 0
 MatchesStatus rules start events now Done = HasEnded events
     × (bytes_read events ≡ closed (bytes_came events)) × HasAnswered rules start events now
 MatchesStatus rules start events now ReadFailed = HasAnswered rules start events now
-MatchesStatus rules start events now WriteFailed = Unit {0}
+MatchesStatus rules start events now WriteFailed = (unwritten : List ℕ)
+    × Answers rules start (lines_read events) (bytes_written events ++ unwritten) now
 MatchesStatus rules start events now Unended = (reads_of events ≡ 2 ^ 64 - 1)
     × HasAnswered rules start events now
 

@@ -1,4 +1,4 @@
-//! What answers lines.
+//! The trait of what answers lines, one after another.
 ghost use Rattle.std.specs.Prelude.{◌≡◌, [], OnErr, OnOk};
 ghost use Rattle.pages.specs.Printing.{Prints};
 ghost use Rattle.sessions.specs.Answers.{Rules};

@@ -8,8 +8,9 @@ ghost use Rattle.sessions.specs.Events.{End, GoesOnBy, Read as ReadEvent, Writes
 #[derive(Clone, Copy, Debug, PartialEq, Eq)]
 pub struct Failed;
 
-/// A device that is read and written. Contracts see the bytes that are left, those that were written,
-/// and all that was read and written, in order, where the device exposes them.
+/// A device that is read and written. Contracts see the bytes that are left, those that were written, and
+/// the history of all that was read and written, each of a device that shows it: one in memory can show
+/// all three, standard streams none.
 pub trait Device {
     /// What identifies the device while it is borrowed.
     ghost Name: { Type 0 };

@@ -1,4 +1,4 @@
-//! Answering the lines of bytes that have come.
+//! Splitting bytes that have come into lines, and answering each whole line.
 ghost use Rattle.std.specs.Prelude.{ℕ, List};
 ghost use Rattle.sessions.specs.Feeds.{AnswersLine, Feeds};
 ghost use Rattle.sessions.specs.Pending.{Holds};

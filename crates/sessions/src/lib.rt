@@ -7,6 +7,7 @@
 mod answering;
 mod device;
 mod feed;
+mod laws;
 mod lines;
 mod outbox;
 mod pending;
@@ -15,6 +16,7 @@ mod status;
 
 pub use answering::Answering;
 pub use device::{Device, Failed, write_all};
-pub use lines::{last_line_counts, lines_are_exact};
+pub use laws::{answers_in_turn_law, answers_of_lines_law, ended_session_law, known_device_law};
+pub use lines::{last_line_counts, lines_are_exact_law, one_split_law};
 pub use run::answer_lines;
 pub use status::SessionStatus;

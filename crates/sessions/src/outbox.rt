@@ -68,7 +68,7 @@ impl<T: Device> Page for Outbox<'_, T> {
             return;
         }
         let bytes = text.as_bytes();
-        if keep(&mut self.kept, bytes) {
+        if keep_text(&mut self.kept, bytes) {
             return;
         }
         self.send(bytes);
@@ -76,7 +76,7 @@ impl<T: Device> Page for Outbox<'_, T> {
 }
 
 // Keeps a piece of a text after what is kept, if there is room for it.
-fn keep(kept: &mut Vec<u8>, text: &[u8]) -> bool
+fn keep_text(kept: &mut Vec<u8>, text: &[u8]) -> bool
     ensures { kept.new.items ≡ (if result then kept.old.items ++ text.now else kept.old.items) }
 {
     if kept.len() >= KEPT_LIMIT {
@@ -122,7 +122,7 @@ pub(crate) fn answer_bytes<A: Answering, T: Device>(
 }
 
 /// Answers the line that the end of the input left open, if there is one.
-pub(crate) fn finish<A: Answering, T: Device>(
+pub(crate) fn answer_open_line<A: Answering, T: Device>(
     alloc: Global,
     answering: &mut A,
     device: &mut T,

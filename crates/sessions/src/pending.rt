@@ -1,4 +1,4 @@
-//! A line that is not whole yet.
+//! The bytes of a line that is not whole yet.
 ghost use Rattle.std.specs.Prelude.{◌≡◌, ◌++◌, ◌∷◌, [], ℕ, List, IsTrue, length, ◌<◌, ◌↔◌};
 ghost use Rattle.sessions.specs.Pending.{Holds};
 

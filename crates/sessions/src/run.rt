@@ -5,7 +5,7 @@ ghost use Rattle.sessions.specs.Sessions.{LeavesFailures};
 
 use crate::answering::Answering;
 use crate::device::{Device, Failed};
-use crate::outbox::{answer_bytes, finish};
+use crate::outbox::{answer_bytes, answer_open_line};
 use crate::pending::Pending;
 use crate::status::SessionStatus;
 use std::alloc::Global;
@@ -13,7 +13,8 @@ use std::alloc::Global;
 // How many bytes one read call asks for.
 const READ_SIZE: usize = 4_096;
 
-/// Reads lines to the end of the input, and answers each before it reads on.
+/// Reads lines to the end of the input, and answers each before it reads on. If a write fails, the lines
+/// that had come whole are still carried out, each unless it lacks memory.
 #[tactic(auto, using(crate::proofs::Corollaries::whole_session))]
 pub fn answer_lines<A: Answering, T: Device>(
     alloc: Global,
@@ -30,10 +31,10 @@ pub fn answer_lines<A: Answering, T: Device>(
     ensures failures { LeavesFailures T.read_fails T.write_fails
         (T.failures device.old) (T.failures device.new) result }
 {
-    converse(alloc, answering, device)
+    answer_until_end(alloc, answering, device)
 }
 
-fn converse<A: Answering, T: Device>(
+fn answer_until_end<A: Answering, T: Device>(
     alloc: Global,
     answering: &mut A,
     device: &mut T,
@@ -51,7 +52,7 @@ fn converse<A: Answering, T: Device>(
             Err(Failed) => return SessionStatus::ReadFailed,
         };
         if count == 0 {
-            return match finish(alloc, answering, device, &mut pending) {
+            return match answer_open_line(alloc, answering, device, &mut pending) {
                 Ok(()) => SessionStatus::Done,
                 Err(Failed) => SessionStatus::WriteFailed,
             };

@@ -7,7 +7,7 @@ use Rattle.system_keys.proofs.KeyOrder.{not_below_itself, below_up_to, up_to_bel
 use Rattle.system_keys.proofs.KeyLaws.{inside_from_holds}
 use Rattle.model.specs.WriteHistories.{unless_forgotten}
 use Rattle.share_judge.specs.Answers.{HaveOneLast, AreSteps, IsCount}
-use Rattle.share_judge.specs.Steps.{Start, last_from, IsBefore, AreRising, HasStart, is_counted, changes_from}
+use Rattle.share_judge.specs.Steps.{Start, last_from, IsBefore, AreRising, HasStart, is_inner_boundary, changes_from}
 use Rattle.share_judge.proofs.Starts.{before_has, before_trans, up_to_before, none_before}
 
 least_key : (key : Key) → is_key_below key [] ≡ false
@@ -34,7 +34,7 @@ one_more n = omega arith
 none_counted : (dropped last : ℕ) (ss : List Start) → ((key : Key) → HasStart ss key → is_key_below key key_space_end ≡ false) → changes_from dropped last ss ≡ 0
 none_counted dropped last [] past = refl
 none_counted dropped last (s ∷ ss) past =
-    let own : is_counted s.0 ≡ false = ap (λ (b : Bool). is_key_below [] s.0 && b) (past s.0 (inl refl)) ∙ and_false (is_key_below [] s.0) in
+    let own : is_inner_boundary s.0 ≡ false = ap (λ (b : Bool). is_key_below [] s.0 && b) (past s.0 (inl refl)) ∙ and_false (is_key_below [] s.0) in
     ap (λ (b : Bool). cond (b && not (nat_eq (unless_forgotten dropped s.1) last)) 1 0 + changes_from dropped (unless_forgotten dropped s.1) ss) own
     ∙ none_more (changes_from dropped (unless_forgotten dropped s.1) ss)
     ∙ none_counted dropped (unless_forgotten dropped s.1) ss (λ key has. past key (inr has))

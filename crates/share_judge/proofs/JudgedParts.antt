@@ -11,8 +11,8 @@ use Rattle.model.specs.Verdicts.{JudgedPart, is_committed, is_too_old, judged_at
 use Rattle.model.specs.WriteHistories.{Write, last_at, unless_forgotten, writes_at, verdict_by_writes, with_writes, verdicts_by_writes, writes_after, has_overwritten_read, counts_against, ReadsCountedKey}
 use Rattle.model.proofs.Members.{Has-from_Contains, Contains-from_Has, Passing, list_any-from_Has, Passing-from_list_any}
 use Rattle.model.proofs.Shares.LastVersions.{last_at_append, key_from_overwritten, overwritten_from_key, same_truth}
-use Rattle.share_judge.specs.Steps.{Start, AreRising, AreOver, last_from, last_of_all, IsReached, is_reached, kept_writes, is_in_some}
-use Rattle.share_judge.specs.Judged.{bound_of, verdict_by_steps, committed_writes, IsJudged}
+use Rattle.share_judge.specs.Steps.{Start, AreRising, AreOver, last_from, last_of_all, IsReached, is_written_above, kept_writes, is_in_some}
+use Rattle.share_judge.specs.Judged.{conflict_bound, verdict_by_steps, committed_writes, IsJudged}
 use Rattle.share_judge.proofs.Reached.{reached_iff}
 use Rattle.share_judge.proofs.KeptWrites.{last_kept}
 
@@ -79,7 +79,7 @@ no_more dropped n = by (nat_le n dropped)
     by false = omega arith
 
 -- what is above the bound counts
-above_counts : (dropped n last : ℕ) (t : JudgedPart) → dropped < t.version → n ≤ t.version → last ≡ unless_forgotten dropped n → bound_of dropped t < n → counts_against t last ≡ true
+above_counts : (dropped n last : ℕ) (t : JudgedPart) → dropped < t.version → n ≤ t.version → last ≡ unless_forgotten dropped n → conflict_bound dropped t < n → counts_against t last ≡ true
 above_counts dropped n last t below up_to is above = by (cases_lt n t.version)
   where
     by : (n < t.version) ⊎ (t.version ≤ n) → counts_against t last ≡ true
@@ -90,24 +90,24 @@ above_counts dropped n last t below up_to is above = by (cases_lt n t.version)
     by (inr own) = or_left (nat_eq last t.version) (nat_lt t.part.snapshot last) (eq-eqb last t.version (is ∙ own_left dropped t.version n below (omega (arith, own, up_to))))
 
 -- and nothing else does
-counts_above : (dropped n last : ℕ) (t : JudgedPart) → dropped < t.version → last ≡ unless_forgotten dropped n → counts_against t last ≡ true → bound_of dropped t < n
+counts_above : (dropped n last : ℕ) (t : JudgedPart) → dropped < t.version → last ≡ unless_forgotten dropped n → counts_against t last ≡ true → conflict_bound dropped t < n
 counts_above dropped n last t below is counts = by (or_cases (nat_eq last t.version) (nat_lt t.part.snapshot last) counts)
   where
-    by : (nat_eq last t.version ≡ true) ⊎ (nat_lt t.part.snapshot last ≡ true) → bound_of dropped t < n
+    by : (nat_eq last t.version ≡ true) ⊎ (nat_lt t.part.snapshot last ≡ true) → conflict_bound dropped t < n
     by (inl own) = let same = left_own dropped t.version n below (sym is ∙ eqb-true last t.version own) in omega (arith, same, below)
     by (inr newer) =
         let above = ltb-true t.part.snapshot last newer in
         let left = left_counts dropped t.part.snapshot n (omega (arith, above, is)) in
         omega (arith, left)
 
-hit_is : (dropped : ℕ) (starts : List Start) (writes : List Write) (t : JudgedPart) → AreSoFar dropped t.version starts writes → list_any (is_reached (bound_of dropped t) starts) t.part.reads ≡ has_overwritten_read writes t
+hit_is : (dropped : ℕ) (starts : List Start) (writes : List Write) (t : JudgedPart) → AreSoFar dropped t.version starts writes → list_any (is_written_above (conflict_bound dropped t) starts) t.part.reads ≡ has_overwritten_read writes t
 hit_is dropped starts writes t so_far = same_truth (list_any test t.part.reads) (has_overwritten_read writes t) to from
   where
     bound : ℕ
-    bound = bound_of dropped t
+    bound = conflict_bound dropped t
 
     test : Range → Bool
-    test = is_reached bound starts
+    test = is_written_above bound starts
 
     zero_below : 0 < t.version
     zero_below = let low = so_far.dropped_below in omega (arith, low)

@@ -5,7 +5,7 @@ use Rattle.std.proofs.lemmas.Bool.{ltb-true, lt-ltb, or_cases, or_left, or_right
 use Rattle.system_keys.specs.Keys.{Key, Range, is_key_below, holds}
 use Rattle.system_keys.proofs.KeyOrder.{not_below_itself, up_to_below, not_below_back}
 use Rattle.system_keys.proofs.KeyLaws.{IsInside, inside_from_holds, holds_from_inside, holds_begin}
-use Rattle.share_judge.specs.Steps.{Start, last_from, AreRising, HasStart, IsReached, has_start_above, is_reached}
+use Rattle.share_judge.specs.Steps.{Start, last_from, AreRising, HasStart, IsReached, has_start_above, is_written_above}
 use Rattle.share_judge.proofs.Starts.{before_has, none_before, before_trans}
 
 -- a start inside that is above the bound
@@ -73,10 +73,10 @@ reach bound first range (s ∷ ss) key rising inside above = by (is_key_below ke
             either (inl is) = or_left (nat_lt bound (last_from s.1 ss range.begin)) (has_start_above bound (s ∷ ss) range) is
             either (inr is) = or_right (nat_lt bound (last_from s.1 ss range.begin)) (has_start_above bound (s ∷ ss) range) (more (holds range s.0) is)
 
-pub reached_iff : (bound : ℕ) (range : Range) (ss : List Start) → AreRising ss → IsTrue (is_reached bound ss range) ↔ IsReached bound (last_from 0 ss) range
+pub reached_iff : (bound : ℕ) (range : Range) (ss : List Start) → AreRising ss → IsTrue (is_written_above bound ss range) ↔ IsReached bound (last_from 0 ss) range
 reached_iff bound range ss rising = (to, from)
   where
-    to : IsTrue (is_reached bound ss range) → IsReached bound (last_from 0 ss) range
+    to : IsTrue (is_written_above bound ss range) → IsReached bound (last_from 0 ss) range
     to h = by (or_cases (nat_lt bound (last_from 0 ss range.begin)) (has_start_above bound ss range) both.1)
       where
         both : (is_key_below range.begin range.end ≡ true) × ((nat_lt bound (last_from 0 ss range.begin) || has_start_above bound ss range) ≡ true)
@@ -86,7 +86,7 @@ reached_iff bound range ss rising = (to, from)
         by (inl own) = record { key = range.begin; inside = holds_begin range both.0; above = ltb-true bound (last_from 0 ss range.begin) own }
         by (inr any) = let f = found bound 0 range ss rising any in record { key = f.key; inside = f.inside; above = f.above }
 
-    from : IsReached bound (last_from 0 ss) range → IsTrue (is_reached bound ss range)
+    from : IsReached bound (last_from 0 ss) range → IsTrue (is_written_above bound ss range)
     from r =
         let inside = inside_from_holds range r.key r.inside in
         and_from (is_key_below range.begin range.end) (nat_lt bound (last_from 0 ss range.begin) || has_start_above bound ss range) (up_to_below range.begin r.key range.end inside.begun inside.ended) (reach bound 0 range ss r.key rising inside r.above)

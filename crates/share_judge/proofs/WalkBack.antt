@@ -4,7 +4,7 @@ use Rattle.std.specs.List.{list_any}
 use Rattle.std.proofs.lemmas.Bool.{ltb-true, lt-ltb}
 use Rattle.system_keys.specs.Keys.{Key, Range, is_key_below, is_key_up_to, holds}
 use Rattle.system_keys.proofs.KeyOrder.{up_to_trans, below_up_to, not_below_back, up_to_is}
-use Rattle.share_judge.specs.Steps.{Start, last_from, IsBefore, AreRising, has_start_above, is_reached}
+use Rattle.share_judge.specs.Steps.{Start, last_from, IsBefore, AreRising, has_start_above, is_written_above}
 use Rattle.share_judge.proofs.Starts.{none_before, before_trans, starts_below}
 
 -- ---- the starts below the end of the range
@@ -150,7 +150,7 @@ none_inside bound range (t ∷ front) s rising up_to low =
 pub record AreLeft (bound : ℕ) (range : Range) (ss left : List Start) : Type 0 where
   pub rising : AreRising left
   pub below : AreBelow range.end left
-  pub same : is_reached bound left range ≡ is_reached bound ss range
+  pub same : is_written_above bound left range ≡ is_written_above bound ss range
 
 pub first_left : (bound : ℕ) (range : Range) (ss left : List Start) → is_key_below range.begin range.end ≡ true → AreRising ss → left ≡ starts_below range.end ss → AreLeft bound range ss left
 first_left bound range ss left forward rising is =
@@ -187,8 +187,8 @@ or_true true = refl
 or_true false = refl
 
 -- a start above the bound is inside, or the one that decides the begin
-pub found_above : (bound : ℕ) (range : Range) (ss left front : List Start) (s : Start) → is_key_below range.begin range.end ≡ true → left ≡ front ++ s ∷ [] → bound < s.1 → AreLeft bound range ss left → true ≡ is_reached bound ss range
-found_above bound range ss left front s forward is more left_is = sym reached ∙ ap (λ (xs : List Start). is_reached bound xs range) (sym is) ∙ left_is.same
+pub found_above : (bound : ℕ) (range : Range) (ss left front : List Start) (s : Start) → is_key_below range.begin range.end ≡ true → left ≡ front ++ s ∷ [] → bound < s.1 → AreLeft bound range ss left → true ≡ is_written_above bound ss range
+found_above bound range ss left front s forward is more left_is = sym reached ∙ ap (λ (xs : List Start). is_written_above bound xs range) (sym is) ∙ left_is.same
   where
     rising : AreRising (front ++ s ∷ [])
     rising = subst AreRising is left_is.rising
@@ -199,7 +199,7 @@ found_above bound range ss left front s forward is more left_is = sym reached �
     below : is_key_below s.0 range.end ≡ true
     below = last_below range.end front s (subst (AreBelow range.end) is left_is.below)
 
-    reached : is_reached bound (front ++ s ∷ []) range ≡ true
+    reached : is_written_above bound (front ++ s ∷ []) range ≡ true
     reached = rw forward (by (is_key_below range.begin s.0) refl)
       where
         by : (b : Bool) → is_key_below range.begin s.0 ≡ b → (nat_lt bound (last_from 0 (front ++ s ∷ []) range.begin) || has_start_above bound (front ++ s ∷ []) range) ≡ true
@@ -210,8 +210,8 @@ found_above bound range ss left front s forward is more left_is = sym reached �
         by false up_to = ap (λ n. nat_lt bound n || has_start_above bound (front ++ s ∷ []) range) (last_decides 0 front s range.begin rising up_to) ∙ ap (λ (b : Bool). b || has_start_above bound (front ++ s ∷ []) range) above
 
 -- one up to the begin that is not above the bound ends the walk
-pub none_above : (bound : ℕ) (range : Range) (ss left front : List Start) (s : Start) → is_key_below range.begin range.end ≡ true → left ≡ front ++ s ∷ [] → s.1 ≤ bound → is_key_below range.begin s.0 ≡ false → AreLeft bound range ss left → false ≡ is_reached bound ss range
-none_above bound range ss left front s forward is no_more up_to left_is = sym reached ∙ ap (λ (xs : List Start). is_reached bound xs range) (sym is) ∙ left_is.same
+pub none_above : (bound : ℕ) (range : Range) (ss left front : List Start) (s : Start) → is_key_below range.begin range.end ≡ true → left ≡ front ++ s ∷ [] → s.1 ≤ bound → is_key_below range.begin s.0 ≡ false → AreLeft bound range ss left → false ≡ is_written_above bound ss range
+none_above bound range ss left front s forward is no_more up_to left_is = sym reached ∙ ap (λ (xs : List Start). is_written_above bound xs range) (sym is) ∙ left_is.same
   where
     rising : AreRising (front ++ s ∷ [])
     rising = subst AreRising is left_is.rising
@@ -219,7 +219,7 @@ none_above bound range ss left front s forward is no_more up_to left_is = sym re
     low : nat_lt bound s.1 ≡ false
     low = low_is bound s.1 no_more
 
-    reached : is_reached bound (front ++ s ∷ []) range ≡ false
+    reached : is_written_above bound (front ++ s ∷ []) range ≡ false
     reached = rw forward (ap₂ (λ (n : ℕ) (b : Bool). nat_lt bound n || b) (last_decides 0 front s range.begin rising up_to) (none_inside bound range front s rising up_to low) ∙ ap (λ (b : Bool). b || false) low)
 
 -- and one above the begin that is not above the bound is passed by
@@ -230,7 +230,7 @@ one_less bound range ss left front s is no_more after left_is =
       below = front_below range.end front s all_below;
       same =
           sym (ap₂ (λ (n : ℕ) (b : Bool). is_key_below range.begin range.end && (nat_lt bound n || b)) (last_after 0 front s range.begin after) (inside_last bound range front s inside ∙ ap (λ (b : Bool). has_start_above bound front range || b) low ∙ or_false (has_start_above bound front range)))
-          ∙ ap (λ (xs : List Start). is_reached bound xs range) (sym is)
+          ∙ ap (λ (xs : List Start). is_written_above bound xs range) (sym is)
           ∙ left_is.same;
     }
   where
@@ -244,8 +244,8 @@ one_less bound range ss left front s is no_more after left_is =
     inside = ap₂ (λ (a b : Bool). not a && b) (not_below_back range.begin s.0 after) (last_below range.end front s all_below)
 
 -- without a start nothing is above the bound
-pub none_left : (bound : ℕ) (range : Range) (ss left : List Start) → left ≡ [] → AreLeft bound range ss left → false ≡ is_reached bound ss range
-none_left bound range ss left is left_is = sym (none (is_key_below range.begin range.end)) ∙ ap (λ (xs : List Start). is_reached bound xs range) (sym is) ∙ left_is.same
+pub none_left : (bound : ℕ) (range : Range) (ss left : List Start) → left ≡ [] → AreLeft bound range ss left → false ≡ is_written_above bound ss range
+none_left bound range ss left is left_is = sym (none (is_key_below range.begin range.end)) ∙ ap (λ (xs : List Start). is_written_above bound xs range) (sym is) ∙ left_is.same
   where
     none : (b : Bool) → (b && (nat_lt bound 0 || false)) ≡ false
     none true = by (nat_lt bound 0) refl

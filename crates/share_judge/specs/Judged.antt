@@ -9,19 +9,19 @@ use Rattle.model.specs.declared.verdict.Verdict.{Verdict}
 use Rattle.model.specs.declared.verdict.Verdict.TheVariants.{Conflict, TooOld, Committed}
 use Rattle.model.specs.Verdicts.{JudgedPart, is_too_old, is_committed, judged_at}
 use Rattle.model.specs.WriteHistories.{last_at, verdicts_by_writes, writes_after, unless_forgotten}
-use Rattle.share_judge.specs.Steps.{Start, last_from, last_of_all, is_reached, kept_writes}
+use Rattle.share_judge.specs.Steps.{Start, last_from, last_of_all, is_written_above, kept_writes}
 
 -- versions above this one count against t: those above its snapshot that were not dropped, and its
 -- own, which only parts before it in its share have written
-abbrev pub bound_of : (dropped : Version) (t : JudgedPart) → Version
-bound_of dropped t = min (max dropped t.part.snapshot) (t.version - 1)
+abbrev pub conflict_bound : (dropped : Version) (t : JudgedPart) → Version
+conflict_bound dropped t = min (max dropped t.part.snapshot) (t.version - 1)
 
 -- the verdict on t by the steps, of which those up to `dropped` count as none
 abbrev pub verdict_by_steps :
     (window : ℕ) (dropped : Version) (starts : List Start) (t : JudgedPart) → Verdict
 verdict_by_steps window dropped starts t =
     if is_too_old window t then TooOld
-    else if list_any (is_reached (bound_of dropped t) starts) t.part.reads then Conflict
+    else if list_any (is_written_above (conflict_bound dropped t) starts) t.part.reads then Conflict
     else Committed
 
 -- the writes of a part with this verdict, if that is Committed

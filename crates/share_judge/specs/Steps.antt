@@ -172,20 +172,20 @@ has_start_above bound starts range =
 
 -- the test of `IsReached`: the range is not empty, and its begin or some start in it has a version
 -- above the bound
-abbrev pub is_reached : (bound : Version) (starts : List Start) (range : Range) → Bool
-is_reached bound starts range =
+abbrev pub is_written_above : (bound : Version) (starts : List Start) (range : Range) → Bool
+is_written_above bound starts range =
     is_key_below range.begin range.end
     && (nat_lt bound (last_from 0 starts range.begin) || has_start_above bound starts range)
 
 -- ---- counting
 
 -- a range can end and the next one begin at the key
-abbrev pub is_counted : (key : Key) → Bool
-is_counted key = is_key_below [] key && is_key_below key key_space_end
+abbrev pub is_inner_boundary : (key : Key) → Bool
+is_inner_boundary key = is_key_below [] key && is_key_below key key_space_end
 
 -- how many of the starts begin a step with another version than the one before
 abbrev pub changes_from : (dropped last : Version) (starts : List Start) → ℕ
 changes_from dropped last [] = 0
 changes_from dropped last (s ∷ starts) =
     let version = unless_forgotten dropped s.1 in
-    cond (is_counted s.0 && not (nat_eq version last)) 1 0 + changes_from dropped version starts
+    cond (is_inner_boundary s.0 && not (nat_eq version last)) 1 0 + changes_from dropped version starts

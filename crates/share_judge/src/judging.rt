@@ -5,9 +5,10 @@ ghost use Rattle.std.specs.List.{list_any};
 ghost use Rattle.system_keys.specs.Keys.{Key};
 ghost use Rattle.model.specs.Verdicts.{JudgedPart, is_too_old};
 ghost use Rattle.share_judge.specs.Steps.{AreRising, TellTheSame, AreOver, HaveVersion, last_from};
-ghost use Rattle.share_judge.specs.Steps.{last_of_all, is_in_some, is_reached};
+ghost use Rattle.share_judge.specs.Steps.{last_of_all, is_in_some, is_written_above};
 ghost use Rattle.share_judge.specs.Steps.{starts_now, starts_before};
-ghost use Rattle.share_judge.specs.Judged.{bound_of, verdict_by_steps, committed_writes, IsJudged};
+ghost use Rattle.share_judge.specs.Judged.{conflict_bound, verdict_by_steps, committed_writes};
+ghost use Rattle.share_judge.specs.Judged.{IsJudged};
 
 use crate::step_key::StepKey;
 use crate::step_map::StepMap;
@@ -54,7 +55,7 @@ pub(crate) fn judge_with_copy(
 
 /// Judges the parts of a share, one after another, and gives each key that a committed one writes
 /// the version. Returns the verdicts, and the starts that were listed, as [`StepMap::overwrite`] does
-/// it. What was before the share stands, so that [`StepMap::take_back`] gives it back.
+/// it. What was before the share stands, so that [`StepMap::take_back_share`] gives it back.
 pub(crate) fn judge_parts(
     steps: &mut StepMap,
     judging: Judging,
@@ -113,13 +114,13 @@ fn is_too_old(window: u64, version: Version, part: &Part) -> bool
 /// share.
 fn has_overwritten_read(steps: &StepMap, judging: Judging, part: &Part) -> Result<bool, OutOfMemory>
     ensures { let t : JudgedPart = record { version = judging.version; part = part.now } in
-        let bound = bound_of judging.dropped t in IfOk result
-        (λ answer. answer ≡ list_any (is_reached bound (starts_now steps.now)) part.now.reads) }
+        let bound = conflict_bound judging.dropped t in IfOk result
+        (λ answer. answer ≡ list_any (is_written_above bound (starts_now steps.now)) part.now.reads) }
 {
-    let bound = bound_of(judging, part);
+    let bound = conflict_bound(judging, part);
     let reads = part.reads.as_slice();
     for read in reads {
-        if is_reached(steps, bound, read)? {
+        if is_written_above(steps, bound, read)? {
             return Ok(true);
         }
     }
@@ -128,22 +129,22 @@ fn has_overwritten_read(steps: &StepMap, judging: Judging, part: &Part) -> Resul
 
 /// Versions above this one count against the part: those above its snapshot that were not dropped,
 /// and the version of its share, which only parts before it have written.
-fn bound_of(judging: Judging, part: &Part) -> Version
+fn conflict_bound(judging: Judging, part: &Part) -> Version
     ensures { let t : JudgedPart = record { version = judging.version; part = part.now } in
-        result ≡ bound_of judging.dropped t }
+        result ≡ conflict_bound judging.dropped t }
 {
     let newest = judging.dropped.max(part.snapshot);
     newest.min(judging.version.saturating_sub(1))
 }
 
 /// Whether some key of the read has a version above the bound.
-fn is_reached(steps: &StepMap, bound: Version, read: &KeyRange) -> Result<bool, OutOfMemory>
+fn is_written_above(steps: &StepMap, bound: Version, read: &KeyRange) -> Result<bool, OutOfMemory>
     ensures { IfOk result
-        (λ answer. answer ≡ is_reached bound (starts_now steps.now) read.now) }
+        (λ answer. answer ≡ is_written_above bound (starts_now steps.now) read.now) }
 {
     let begin = StepKey::new(steps.alloc(), read.begin())?;
     let end = StepKey::new(steps.alloc(), read.end())?;
-    Ok(steps.reaches(&begin, &end, bound))
+    Ok(steps.has_version_above(&begin, &end, bound))
 }
 
 /// The writes of a part, if its verdict is Committed.

@@ -1,4 +1,4 @@
-//! What stands at a start, now and before the share that is judged.
+//! A step: the version from a key on, now and before the share that is judged.
 
 ghost use Rattle.std.specs.Prelude.{◌≡◌};
 ghost use Rattle.share_judge.specs.Steps.{version_before};

@@ -1,4 +1,4 @@
-//! The keys at which steps begin.
+//! The key at which a step begins: an `OrderedKey` in a type of its own.
 
 ghost use Rattle.std.specs.Prelude.{◌≡◌, IfOk};
 

@@ -1,4 +1,5 @@
-//! The version of every key, kept as steps, and what it was before the share that is judged.
+//! The version of every key as a map of steps: looking up, overwriting by a share, taking back,
+//! forgetting.
 
 ghost use Rattle.std.specs.Prelude.{◌≡◌, ◌+◌, ◌++◌, [], IfOk, OnOk, IsTrue, true, false};
 ghost use Rattle.std.specs.Prelude.{nat_eq, not, IfSome};
@@ -7,7 +8,8 @@ ghost use Rattle.model.specs.WriteHistories.{unless_forgotten};
 ghost use Rattle.share_judge.specs.Steps.{last_from, last_before, settled, AreRising, HasStart};
 ghost use Rattle.share_judge.specs.Steps.{IsEdge, IsFree, TellTheSame, GainsStart, AreOver};
 ghost use Rattle.share_judge.specs.Steps.{HaveVersion, marked, is_listed, is_same_key};
-ghost use Rattle.share_judge.specs.Steps.{is_reached, keys_between, is_counted, changes_from};
+ghost use Rattle.share_judge.specs.Steps.{is_written_above, keys_between, is_inner_boundary};
+ghost use Rattle.share_judge.specs.Steps.{changes_from};
 ghost use Rattle.share_judge.specs.Steps.{no_step, version_before, starts_now, starts_before};
 
 use crate::step::{NO_STEP, Step};
@@ -104,10 +106,10 @@ impl StepMap {
 
     /// Whether some key from `begin` up to `end` has a version above the bound: one of a start between,
     /// or of the last start up to `begin`. Does not allocate.
-    pub(crate) fn reaches(&self, begin: &StepKey, end: &StepKey, bound: Version) -> bool
+    pub(crate) fn has_version_above(&self, begin: &StepKey, end: &StepKey, bound: Version) -> bool
         requires { IsTrue (is_key_below begin.now end.now) }
         ensures { let range : Range = record { begin = begin.now; end = end.now } in
-            result ≡ is_reached bound (starts_now self.now) range }
+            result ≡ is_written_above bound (starts_now self.now) range }
     {
         let mut left = self.steps.range(..end);
         while let Some((key, step)) = left.next_back() {
@@ -205,7 +207,7 @@ impl StepMap {
         ensures before { TellTheSame (starts_before version self.old) (starts_before version self.new) }
         ensures rising { AreRising self.new }
     {
-        self.put_missing(end, at_end)?;
+        self.put_edge_if_missing(end, at_end)?;
         self.steps.insert(begin, at_begin.over(version))?;
         Ok(())
     }
@@ -230,16 +232,16 @@ impl StepMap {
         ensures listed { OnOk result (HaveVersion version (starts_now self.old) listed.old.items
             → HaveVersion version (starts_now self.new) listed.new.items) }
     {
-        self.put_copy(end, at_end)?;
-        self.put_edge(begin.copy()?)?;
+        self.put_copy_if_missing(end, at_end)?;
+        self.put_step_start(begin.copy()?)?;
         let first = listed.len();
-        self.list_between(begin, end, listed)?;
+        self.list_starts_between(begin, end, listed)?;
         self.set_versions(&listed[first..], version);
         Ok(())
     }
 
     /// Puts a start at the key, unless there is one.
-    fn put_missing(&mut self, key: StepKey, edge: Edge) -> Result<(), OutOfMemory>
+    fn put_edge_if_missing(&mut self, key: StepKey, edge: Edge) -> Result<(), OutOfMemory>
         requires { IsEdge self.old key edge.step edge.is_start }
         ensures gains { GainsStart key self.old self.new }
         ensures there { OnOk result (HasStart self.new key) }
@@ -252,7 +254,7 @@ impl StepMap {
     }
 
     /// Puts a start at the key, unless there is one. Copies the key only then.
-    fn put_copy(&mut self, key: &StepKey, edge: Edge) -> Result<(), OutOfMemory>
+    fn put_copy_if_missing(&mut self, key: &StepKey, edge: Edge) -> Result<(), OutOfMemory>
         requires { IsEdge self.old key.now edge.step edge.is_start }
         ensures gains { GainsStart key.now self.old self.new }
         ensures there { OnOk result (HasStart self.new key.now) }
@@ -260,16 +262,16 @@ impl StepMap {
         if edge.is_start {
             return Ok(());
         }
-        self.put_missing(key.copy()?, edge)
+        self.put_edge_if_missing(key.copy()?, edge)
     }
 
     /// Puts a start at the key, with the step that the key has.
-    fn put_edge(&mut self, key: StepKey) -> Result<(), OutOfMemory>
+    fn put_step_start(&mut self, key: StepKey) -> Result<(), OutOfMemory>
         ensures gains { GainsStart key self.old self.new }
         ensures there { OnOk result (HasStart self.new key) }
     {
         let step = self.at(&key);
-        self.put_missing(
+        self.put_edge_if_missing(
             key,
             Edge {
                 step,
@@ -279,7 +281,7 @@ impl StepMap {
     }
 
     /// Lists the keys of the starts from `begin` up to `end`.
-    fn list_between(
+    fn list_starts_between(
         &self,
         begin: &StepKey,
         end: &StepKey,
@@ -324,18 +326,18 @@ impl StepMap {
 
     /// Takes out the starts at the keys if the step before has their version, which is this one. Does
     /// not allocate.
-    pub(crate) fn take_out_repeated(&mut self, keys: &[StepKey], version: Version)
+    pub(crate) fn remove_repeated_starts(&mut self, keys: &[StepKey], version: Version)
         requires { HaveVersion version (starts_now self.old) keys.now }
         ensures same { TellTheSame (starts_now self.old) (starts_now self.new) }
         ensures rising { AreRising self.old → AreRising self.new }
     {
         for key in keys {
-            self.take_out_if_repeated(key, version);
+            self.remove_start_if_repeated(key, version);
         }
     }
 
     /// Takes out the start at the key, if the step before has its version, which is this one.
-    fn take_out_if_repeated(&mut self, key: &StepKey, version: Version)
+    fn remove_start_if_repeated(&mut self, key: &StepKey, version: Version)
         requires { last_from 0 (starts_now self.old) key.now ≡ version }
         ensures same { TellTheSame (starts_now self.old) (starts_now self.new) }
         ensures rising { AreRising self.new }
@@ -347,7 +349,7 @@ impl StepMap {
     }
 
     /// Gives each key the version from before the share of this version. Does not allocate.
-    pub(crate) fn take_back(&mut self, share: Version)
+    pub(crate) fn take_back_share(&mut self, share: Version)
         ensures back { starts_now self.new ≡ starts_before share self.old }
         ensures rising { AreRising self.new }
     {
@@ -392,7 +394,7 @@ impl StepMap {
         let mut last = 0;
         for (key, step) in &self.steps {
             let version = unless_forgotten(dropped, step.version);
-            if is_counted(key.as_slice()) && version != last {
+            if is_inner_boundary(key.as_slice()) && version != last {
                 count += 1;
             }
             last = version;
@@ -430,8 +432,8 @@ fn unless_forgotten(bound: Version, version: Version) -> Version
 
 /// Whether a range can end and the next one begin at the key: it is above the empty key, and below
 /// `\xff\xff`.
-fn is_counted(key: &[u8]) -> bool
-    ensures { result ≡ is_counted key.now }
+fn is_inner_boundary(key: &[u8]) -> bool
+    ensures { result ≡ is_inner_boundary key.now }
 {
     is_key_below(b"", key) && is_key_below(key, KEY_SPACE_END)
 }

@@ -1,4 +1,4 @@
-//! The verdicts on a share.
+//! The list of the verdicts on a share.
 
 use model::Verdict;
 use system_keys::Items;

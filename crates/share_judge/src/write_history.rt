@@ -97,10 +97,10 @@ impl WriteHistory {
             version,
         };
         let Ok((verdicts, listed)) = judge_parts(&mut self.steps, judging, share.parts()) else {
-            self.steps.take_back(version);
+            self.steps.take_back_share(version);
             return Err(OutOfMemory);
         };
-        self.steps.take_out_repeated(&listed, version);
+        self.steps.remove_repeated_starts(&listed, version);
         self.last = version;
         Ok(Items::from(verdicts))
     }
@@ -141,17 +141,17 @@ impl WriteHistory {
         };
         let Ok((verdicts, copy, listed)) = judge_with_copy(&mut self.steps, judging, share.parts())
         else {
-            self.steps.take_back(version);
+            self.steps.take_back_share(version);
             return Err(NotJudged::OutOfMemory(keep));
         };
         match keep(copy) {
             Ok(kept) => {
-                self.steps.take_out_repeated(&listed, version);
+                self.steps.remove_repeated_starts(&listed, version);
                 self.last = version;
                 Ok((verdicts, kept))
             }
             Err(reason) => {
-                self.steps.take_back(version);
+                self.steps.take_back_share(version);
                 Err(NotJudged::NotKept(reason))
             }
         }

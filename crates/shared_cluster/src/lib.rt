@@ -14,12 +14,12 @@ pub use locked_cluster::{
     Meeting, NotedFinished, NotedReply, NotedRouting, ProxyGuard, Ready, Refusal, Refused, Request,
     ResolverGuard, SharedProxy, SharedResolver, audit, meet, metadata_of_two,
 };
+pub use metadata::{Metadata, RowTags};
 pub use model::{
     Config, Finished, JournalRow, Move, Outcome, PrivateCopy, ProxyNumber,
     Refusal as ConfigRefusal, Reply, ResolverNumber, Route, Routing, RowNumber, StateTxn, Tagged,
     TransactionNumber, Verdict, Version,
 };
-pub use proxy_state::Metadata;
 pub use turn_world::{Answer, Event, OfferAnswer, Refusal as TurnRefusal, Stopped, TurnWorld};
 pub use workers::{
     EndedWorker, Gate, Open, PendingRequest, Place, ProxyInboxes, ResolverWorker, SendersGuard,

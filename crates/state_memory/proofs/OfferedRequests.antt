@@ -4,7 +4,7 @@ use Rattle.std.specs.Prelude.{Result, Ok, Err, IsOk}
 use Rattle.system_keys.specs.AsSpecified.{IsFaultOf}
 use Rattle.model.specs.Requests.{Request, request_reply}
 use Rattle.model.specs.Offers.{OfferResult, OfferFault, answer_to}
-use Rattle.model.specs.ResolverMemory.{ResolverView, StandsForRequests, Course, GiveAgain, Judge, course}
+use Rattle.model.specs.ResolverMemory.{ResolverView, StandsForRequests, Decision, GiveAgain, Judge, course}
 use Rattle.model.specs.Laws.Resolvers.{answer_on_course}
 use Rattle.model.proofs.Resolvers.Answers.{memory_answers}
 
@@ -12,7 +12,7 @@ use Rattle.model.proofs.Resolvers.Answers.{memory_answers}
 abbrev pub answer : ResolverView → List Request → Request → OfferResult
 answer v judged q = answer_to v.number (length v.proxies) v.written.window judged q
 
-pub on_course : (v : ResolverView) (judged : List Request) (q : Request) (way : Result Course OfferFault) → StandsForRequests v judged → course v q ≡ way → answer v judged q ≡ answer_on_course (request_reply v.written.window judged q) way
+pub on_course : (v : ResolverView) (judged : List Request) (q : Request) (way : Result Decision OfferFault) → StandsForRequests v judged → course v q ≡ way → answer v judged q ≡ answer_on_course (request_reply v.written.window judged q) way
 on_course v judged q way stands is = memory_answers v judged q stands ∙ ap (answer_on_course (request_reply v.written.window judged q)) is
 
 -- a refusal is that of the answer, and out of memory comes where a request is served
@@ -20,7 +20,7 @@ pub refused_alike : (v : ResolverView) (judged : List Request) (q : Request) (fa
 refused_alike v judged q (Some fault) stands is = on_course v judged q (Err fault) stands is
 refused_alike v judged q None stands ok = subst IsOk (sym (memory_answers v judged q stands)) (by (course v q) ok)
   where
-    by : (way : Result Course OfferFault) → IsOk way → IsOk (answer_on_course (request_reply v.written.window judged q) way)
+    by : (way : Result Decision OfferFault) → IsOk way → IsOk (answer_on_course (request_reply v.written.window judged q) way)
     by (Ok (GiveAgain reply)) is = is
     by (Ok Judge) is = is
     by (Err fault) is = is

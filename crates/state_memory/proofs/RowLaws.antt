@@ -14,7 +14,7 @@ use Rattle.model.specs.declared.unseen.StateMark.{StateMark}
 use Rattle.model.specs.declared.unseen.UnseenState.{UnseenState}
 use Rattle.model.specs.Numbers.{Version}
 use Rattle.model.specs.Requests.{reply_state_of_mark}
-use Rattle.model.specs.Journal.{verdict_at}
+use Rattle.model.specs.Journal.{verdict_or_conflict}
 use Rattle.state_memory.specs.Order.{Increase, Rise}
 
 -- ---- lists in the order of their versions
@@ -123,7 +123,7 @@ from_least least (part ∷ parts) (suc place) n rise at =
     omega (arith, later, first)
 
 -- the verdict on the part of a number is the one at its place
-pub verdict_there : (least : ℕ) (parts : List Part) (verdicts : List Verdict) (place n : ℕ) → NumbersRise least parts → slice_get (part_numbers parts) place ≡ Some n → verdict_at parts verdicts n ≡ unwrap_or (slice_get verdicts place) Conflict
+pub verdict_there : (least : ℕ) (parts : List Part) (verdicts : List Verdict) (place n : ℕ) → NumbersRise least parts → slice_get (part_numbers parts) place ≡ Some n → verdict_or_conflict parts verdicts n ≡ unwrap_or (slice_get verdicts place) Conflict
 verdict_there least [] verdicts place n rise at = absurd (none-some n at)
 verdict_there least (part ∷ parts) [] place n rise at = refl
 verdict_there least (part ∷ parts) (v ∷ verdicts) zero n rise at =
@@ -135,7 +135,7 @@ verdict_there least (part ∷ parts) (v ∷ verdicts) (suc place) n rise at =
     rw apart (verdict_there (suc part.number) parts verdicts place n rise.1 at)
 
 -- if no part has the number, the verdict is missing
-pub verdict_nowhere : (parts : List Part) (verdicts : List Verdict) (n : ℕ) → (Contains (part_numbers parts) n → ⊥) → verdict_at parts verdicts n ≡ Conflict
+pub verdict_nowhere : (parts : List Part) (verdicts : List Verdict) (n : ℕ) → (Contains (part_numbers parts) n → ⊥) → verdict_or_conflict parts verdicts n ≡ Conflict
 verdict_nowhere [] verdicts n none = refl
 verdict_nowhere (part ∷ parts) [] n none = refl
 verdict_nowhere (part ∷ parts) (v ∷ verdicts) n none =
@@ -155,7 +155,7 @@ states_counted share verdicts (m ∷ marks) states zero so_far = ap length so_fa
 states_counted share verdicts (m ∷ marks) states (suc i) so_far = ap length so_far ∙ ap suc (states_counted share verdicts marks (map (reply_state_of_mark share verdicts) (take i marks) ++ map unjudged (drop i marks)) i refl)
 
 -- the state at place i gets its verdict
-pub state_judged : (share : List Part) (verdicts : List Verdict) (marks : List StateMark) (states : List UnseenState) (i j : ℕ) (mark : StateMark) (state : UnseenState) (verdict : Verdict) → j ≡ suc i → i < length marks → mark ≡ get_or marks i mark → verdict ≡ verdict_at share verdicts mark.number →
+pub state_judged : (share : List Part) (verdicts : List Verdict) (marks : List StateMark) (states : List UnseenState) (i j : ℕ) (mark : StateMark) (state : UnseenState) (verdict : Verdict) → j ≡ suc i → i < length marks → mark ≡ get_or marks i mark → verdict ≡ verdict_or_conflict share verdicts mark.number →
     states ≡ map (reply_state_of_mark share verdicts) (take i marks) ++ map unjudged (drop i marks) →
     slice_set states i (record { verdict = verdict; carried = (get_or states i state).carried }) ≡ map (reply_state_of_mark share verdicts) (take j marks) ++ map unjudged (drop j marks)
 state_judged share verdicts [] states i j mark state verdict next there is verdict_is so_far = absurd (omega arith)
@@ -167,7 +167,7 @@ state_judged share verdicts (m ∷ marks) (s ∷ states) zero j mark state verdi
     let carried : s.carried ≡ m.carried = ap (λ (x : UnseenState). x.carried) head in
     let number : mark.number ≡ m.number = ap (λ (x : StateMark). x.number) is in
     let all : List UnseenState = map (reply_state_of_mark share verdicts) (take 1 (m ∷ marks)) ++ map unjudged (drop 1 (m ∷ marks)) in
-    let done : (record { verdict = verdict; carried = s.carried }) ∷ states ≡ all = λ k. (record { verdict = (verdict_is ∙ ap (verdict_at share verdicts) number) k; carried = carried k }) ∷ rest k in
+    let done : (record { verdict = verdict; carried = s.carried }) ∷ states ≡ all = λ k. (record { verdict = (verdict_is ∙ ap (verdict_or_conflict share verdicts) number) k; carried = carried k }) ∷ rest k in
     done ∙ ap (λ n. map (reply_state_of_mark share verdicts) (take n (m ∷ marks)) ++ map unjudged (drop n (m ∷ marks))) (sym next)
 state_judged share verdicts (m ∷ marks) (s ∷ states) (suc i) j mark state verdict next there is verdict_is so_far =
     let head : s ≡ reply_state_of_mark share verdicts m = cc in

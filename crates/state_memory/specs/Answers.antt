@@ -8,13 +8,13 @@ use Rattle.model.specs.declared.verdict.Verdict.{Verdict}
 use Rattle.model.specs.Requests.{Request, request_reply, request_verdicts, remembered_requests}
 use Rattle.model.specs.Offers.{OfferAnswer, OfferFault, answer_to}
 use Rattle.model.specs.Offers as offers
-use Rattle.model.specs.ResolverMemory.{ResolverView, StandsForRequests, Course as Way, course}
+use Rattle.model.specs.ResolverMemory.{ResolverView, StandsForRequests, Decision as Way, course}
 use Rattle.model.specs.ResolverMemory as way
 use Rattle.model.specs.WriteHistories.{StandsForShares, shares_of}
 use Rattle.state_memory.specs.declared.answer.Answer.{Answer}
 use Rattle.state_memory.specs.declared.answer.Answer.TheVariants as answers
-use Rattle.state_memory.specs.declared.answer.Course.{Course}
-use Rattle.state_memory.specs.declared.answer.Course.TheVariants as courses
+use Rattle.state_memory.specs.declared.answer.Decision.{Decision}
+use Rattle.state_memory.specs.declared.answer.Decision.TheVariants as courses
 use Rattle.state_memory.specs.declared.refusal.Refusal.{Refusal}
 use Rattle.state_memory.specs.declared.refusal.Refusal.TheVariants as refusals
 
@@ -24,7 +24,7 @@ offer_answer_of (answers.Judged reply) = offers.Judged reply
 offer_answer_of (answers.Again reply) = offers.Again reply
 
 -- what it does, in the model's words
-abbrev pub course_of : Course → Way
+abbrev pub course_of : Decision → Way
 course_of (courses.GiveAgain reply) = way.GiveAgain reply
 course_of courses.Judge = way.Judge
 

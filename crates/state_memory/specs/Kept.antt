@@ -11,7 +11,7 @@ use Rattle.model.specs.Offers.{reply_at}
 use Rattle.model.specs.ResolverMemory.{ResolverView, ProxyMemory as Kept, is_row_above, proxy_after}
 use Rattle.state_memory.specs.Order.{RepliesIncrease}
 use Rattle.state_memory.specs.declared.proxy_memory.ProxyMemory.{ProxyMemory}
-use Rattle.state_memory.specs.declared.resolver.Prepared.{Prepared}
+use Rattle.state_memory.specs.declared.resolver.JudgingRoom.{JudgingRoom}
 
 -- what is kept of a proxy
 abbrev pub kept_of : ProxyMemory → Kept
@@ -74,7 +74,7 @@ HasRoom proxies p =
 -- above the last version of its proxy, twice, its states without verdicts, and a place for each
 -- verdict.
 pub record IsPrepared
-    (proxies : List Kept) (rows : List UnseenRow) (q : Request) (made : Prepared) : Type 0 where
+    (proxies : List Kept) (rows : List UnseenRow) (q : Request) (made : JudgingRoom) : Type 0 where
   pub unseen :
       (one : Kept) → slice_get proxies q.proxy ≡ Some one → made.unseen ≡ rows_above one.last rows
   pub copy : made.kept_unseen ≡ made.unseen

@@ -15,7 +15,7 @@ pub enum Answer {
 }
 
 impl Answer {
-    /// Returns a deep copy. Fails only with `OutOfMemory`.
+    /// Returns a copy, which shares the unseen rows. Fails only with `OutOfMemory`.
     pub fn copy(&self) -> Result<Answer, OutOfMemory>
         ensures { IfOk result (λ copy. copy ≡ self.now) }
     {
@@ -24,7 +24,7 @@ impl Answer {
 }
 
 /// What a resolver does with a request that it does not refuse.
-pub(crate) enum Course {
+pub(crate) enum Decision {
     /// It gives this reply again.
     GiveAgain(Reply),
     /// It judges the request.

@@ -9,7 +9,7 @@ ghost use Rattle.state_memory.specs.Answers.{fault_of, course_of};
 ghost use Rattle.state_memory.specs.Kept.{kept_of, all_kept, replies_above, is_first_reply_up_to};
 ghost use Rattle.state_memory.specs.Order.{RepliesIncrease};
 
-use crate::answer::Course;
+use crate::answer::Decision;
 use crate::refusal::Refusal;
 use model::{Reply, Version};
 use request_builder::Request;
@@ -41,14 +41,14 @@ impl ProxyMemory {
     }
 
     /// What the resolver, which has reached version `last`, does with a repeat of this version.
-    pub(crate) fn decide_repeat(&self, version: Version, last: Version) -> Result<Course, Refusal>
+    pub(crate) fn decide_repeat(&self, version: Version, last: Version) -> Result<Decision, Refusal>
         requires { RepliesIncrease self.now.replies.items }
         ensures { let kept = reply_at version (kept_of self.now).replies in
             IsAsSpecified fault_of course_of result
             (course_again kept version self.now.acknowledged last) }
     {
         if let Some(reply) = self.reply_at(version) {
-            return Ok(Course::GiveAgain(reply.copy()?));
+            return Ok(Decision::GiveAgain(reply.copy()?));
         }
         if version <= self.acknowledged {
             return Err(Refusal::GivenUp {

@@ -1,4 +1,4 @@
-//! The resolver.
+//! The resolver: it judges requests, replies, repeats replies and refuses.
 
 ghost use Rattle.std.specs.Prelude.{◌≡◌, ◌<◌, ◌↔◌, [], ◌∷◌, Ok, Err, length, map, IfOk, IfErr};
 ghost use Rattle.std.specs.Prelude.{OnOk, OnErr, None, Some, MatchOption, IsTrue};
@@ -14,10 +14,10 @@ ghost use Rattle.state_memory.specs.Kept.{kept_reply, IsPrepared};
 ghost use Rattle.state_memory.specs.Order.{RowsIncrease};
 ghost use Rattle.std.specs.VecDeque.{deque_len, deque_capacity};
 
-use crate::answer::{Answer, Course};
+use crate::answer::{Answer, Decision};
 use crate::proxy_memory::{ProxyMemory, reached_by_all};
 use crate::refusal::Refusal;
-use crate::rows::{copy_rows, forget_rows, judge_states, rows_above, unjudged_states};
+use crate::rows::{forget_rows, judge_states, rows_above, unjudged_states};
 use model::{ProxyNumber, Reply, ResolverNumber, UnseenRow, UnseenState, Verdict, Version};
 use request_builder::Request;
 use share_judge::{NotJudged, Verdicts, WriteHistory};
@@ -25,7 +25,7 @@ use std::alloc::Global;
 use std::collections::VecDeque;
 use std::convert::Infallible;
 use std::marker::Model;
-use system_keys::{Items, OutOfMemory};
+use system_keys::{Items, OutOfMemory, SharedItems};
 
 /// One resolver, and what it keeps of the requests that it judged.
 ///
@@ -61,11 +61,11 @@ impl Model for Resolver {
 
 /// What is allocated for a request before its verdicts are kept.
 #[derive(Drop)]
-struct Prepared {
+struct JudgingRoom {
     /// The rows that the reply tells.
-    unseen: Items<UnseenRow>,
-    /// A copy of them, for the reply that is kept.
-    kept_unseen: Items<UnseenRow>,
+    unseen: SharedItems<UnseenRow>,
+    /// A copy, which shares them, for the reply that is kept.
+    kept_unseen: SharedItems<UnseenRow>,
     /// The state transactions of the request, each still with the verdict Conflict.
     states: Vec<UnseenState>,
     /// A place for each verdict, for the reply that is kept.
@@ -92,7 +92,7 @@ impl Resolver {
             version: 0,
             history: WriteHistory::new(alloc, window)?,
             rows: VecDeque::new(alloc),
-            proxies: new_proxies(alloc, proxies)?,
+            proxies: new_proxy_memories(alloc, proxies)?,
         })
     }
 
@@ -158,8 +158,8 @@ impl Resolver {
         ensures err { OnErr result (self.new ≡ self.old) }
     {
         match self.decide(request)? {
-            Course::GiveAgain(reply) => Ok(Answer::Again(reply)),
-            Course::Judge => Ok(Answer::Judged(self.judge(request)?)),
+            Decision::GiveAgain(reply) => Ok(Answer::Again(reply)),
+            Decision::Judge => Ok(Answer::Judged(self.judge(request)?)),
         }
     }
 
@@ -188,7 +188,7 @@ impl Resolver {
         ensures back { IfErr result (λ error. IfOutOfMemory error (λ back. back ≡ keep)) }
     {
         let Ok(
-            Prepared {
+            JudgingRoom {
                 unseen,
                 kept_unseen,
                 mut states,
@@ -201,7 +201,7 @@ impl Resolver {
         let (verdicts, kept) = self
             .history
             .judge_with(request.version(), request.share(), keep)?;
-        copy_verdicts(&mut kept_verdicts, verdicts.as_slice());
+        overwrite_verdicts(&mut kept_verdicts, verdicts.as_slice());
         judge_states(&mut states, request, verdicts.as_slice());
         self.rows.push_back_reserved(UnseenRow {
             version: request.version(),
@@ -215,7 +215,7 @@ impl Resolver {
         Ok((reply(request, verdicts, unseen), kept))
     }
 
-    /// Returns a deep copy. Fails only with `OutOfMemory`.
+    /// Returns an equal copy. Fails only with `OutOfMemory`.
     pub fn copy(&self) -> Result<Resolver, OutOfMemory>
         ensures { IfOk result (λ copy. copy ≡ self.now) }
     {
@@ -224,12 +224,12 @@ impl Resolver {
             version: self.version,
             history: self.history.copy()?,
             rows: self.rows.clone()?,
-            proxies: copy_proxies(&self.proxies)?,
+            proxies: copy_proxy_memories(&self.proxies)?,
         })
     }
 
     /// What it does with the request.
-    fn decide(&self, request: &Request) -> Result<Course, Refusal>
+    fn decide(&self, request: &Request) -> Result<Decision, Refusal>
         ensures { IsAsSpecified fault_of course_of result (course self.now request.now) }
     {
         let version = self.version;
@@ -251,7 +251,7 @@ impl Resolver {
         if request.previous() < version {
             return Err(Refusal::OutsideChain { version });
         }
-        Ok(Course::Judge)
+        Ok(Decision::Judge)
     }
 
     /// Judges the request, which comes next, and returns the reply.
@@ -269,7 +269,7 @@ impl Resolver {
 }
 
 /// The memory of each of `proxies` proxies before its first request.
-fn new_proxies(alloc: Global, proxies: usize) -> Result<Vec<ProxyMemory>, OutOfMemory>
+fn new_proxy_memories(alloc: Global, proxies: usize) -> Result<Vec<ProxyMemory>, OutOfMemory>
     ensures { IfOk result (λ made. AreNew proxies made.items) }
 {
     let mut made = Vec::with_capacity(alloc, proxies)?;
@@ -285,7 +285,7 @@ fn prepare(
     rows: &mut VecDeque<UnseenRow>,
     proxies: &mut Vec<ProxyMemory>,
     request: &Request,
-) -> Result<Prepared, OutOfMemory>
+) -> Result<JudgingRoom, OutOfMemory>
     requires there { request.now.proxy < length proxies.old.items }
     requires order { RowsIncrease rows.old.items }
     ensures rows { rows.new.items ≡ rows.old.items }
@@ -297,14 +297,14 @@ fn prepare(
 {
     let alloc: Global = *rows.allocator();
     let place = request.proxy();
-    let unseen = rows_above(alloc, rows, proxies[place].last)?;
-    let kept_unseen = copy_rows(&unseen)?;
+    let unseen = SharedItems::new(alloc, rows_above(alloc, rows, proxies[place].last)?)?;
+    let kept_unseen = unseen.copy()?;
     let states = unjudged_states(alloc, request)?;
     let parts = request.share().parts();
     let kept_verdicts = vec![in alloc; Verdict::Conflict; parts.len()]?;
     rows.reserve(1)?;
     reserve_reply(proxies, place)?;
-    Ok(Prepared {
+    Ok(JudgingRoom {
         unseen,
         kept_unseen,
         states,
@@ -332,15 +332,15 @@ fn keep_reply(proxies: &mut Vec<ProxyMemory>, request: &Request, reply: Reply)
     proxies[request.proxy()].keep_reply(request, reply);
 }
 
-/// A deep copy of what is kept of the proxies.
-fn copy_proxies(proxies: &Vec<ProxyMemory>) -> Result<Vec<ProxyMemory>, OutOfMemory>
+/// A copy of what is kept of the proxies.
+fn copy_proxy_memories(proxies: &Vec<ProxyMemory>) -> Result<Vec<ProxyMemory>, OutOfMemory>
     ensures { IfOk result (λ copy. all_kept copy.items ≡ all_kept proxies.now.items) }
 {
     Ok(proxies.clone()?)
 }
 
 /// Copies the verdicts, if there is a place for each.
-fn copy_verdicts(kept: &mut Vec<Verdict>, verdicts: &[Verdict])
+fn overwrite_verdicts(kept: &mut Vec<Verdict>, verdicts: &[Verdict])
     ensures { length kept.old.items ≡ length verdicts.now → kept.new.items ≡ verdicts.now }
 {
     for i in 0..kept.len() {
@@ -351,7 +351,7 @@ fn copy_verdicts(kept: &mut Vec<Verdict>, verdicts: &[Verdict])
 }
 
 /// The reply to the request with these verdicts and these unseen rows.
-fn reply(request: &Request, verdicts: Items<Verdict>, unseen: Items<UnseenRow>) -> Reply
+fn reply(request: &Request, verdicts: Items<Verdict>, unseen: SharedItems<UnseenRow>) -> Reply
     ensures { result ≡ reply_of request.now verdicts unseen }
 {
     Reply {

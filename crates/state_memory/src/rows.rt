@@ -1,7 +1,7 @@
-//! The rows that a resolver remembers.
+//! The rows that a resolver remembers: finding, copying, forgetting and judging them.
 
 ghost use Rattle.std.specs.Prelude.{◌≡◌, ◌≤◌, [], length, drop, map, IfOk};
-ghost use Rattle.model.specs.Journal.{verdict_at};
+ghost use Rattle.model.specs.Journal.{verdict_or_conflict};
 ghost use Rattle.model.specs.Requests.{reply_state_of_mark};
 ghost use Rattle.state_memory.specs.Kept.{rows_above, is_first_row_up_to};
 ghost use Rattle.state_memory.specs.Order.{RowsIncrease};
@@ -12,7 +12,7 @@ use std::alloc::Global;
 use std::collections::VecDeque;
 use system_keys::{Items, OutOfMemory};
 
-/// Copies of the rows above the version.
+/// Copies of the rows above the version. Room for them is made at once.
 pub(crate) fn rows_above(
     alloc: Global,
     rows: &VecDeque<UnseenRow>,
@@ -21,25 +21,18 @@ pub(crate) fn rows_above(
     requires { RowsIncrease rows.now.items }
     ensures { IfOk result (λ copies. copies ≡ rows_above version rows.now.items) }
 {
-    let start = first_above(rows, version);
-    let mut copies = Vec::new(alloc);
+    let start = first_row_above(rows, version);
+    let mut copies = Vec::with_capacity(alloc, rows.len() - start)?;
     for i in start..rows.len() {
         copies.push(rows[i].copy()?)?;
     }
     Ok(Items::from(copies))
 }
 
-/// A deep copy of the rows.
-pub(crate) fn copy_rows(rows: &Items<UnseenRow>) -> Result<Items<UnseenRow>, OutOfMemory>
-    ensures { IfOk result (λ copy. copy ≡ rows.now) }
-{
-    Ok(rows.clone()?)
-}
-
 /// The place of the first row above the version.
 ///
 /// Goes from the newest row back to the first one that is not above the version.
-fn first_above(rows: &VecDeque<UnseenRow>, version: Version) -> usize
+fn first_row_above(rows: &VecDeque<UnseenRow>, version: Version) -> usize
     requires { RowsIncrease rows.now.items }
     ensures place { result ≤ length rows.now.items }
     ensures rows { drop result rows.now.items ≡ rows_above version rows.now.items }
@@ -106,13 +99,17 @@ pub(crate) fn judge_states(states: &mut Vec<UnseenState>, request: &Request, ver
 {
     let marks = request.states();
     for i in 0..marks.len() {
-        states[i].verdict = verdict_at(request, verdicts, marks[i].number);
+        states[i].verdict = verdict_or_conflict(request, verdicts, marks[i].number);
     }
 }
 
 /// The verdict on the part of the request with this number, or Conflict if there is none.
-fn verdict_at(request: &Request, verdicts: &[Verdict], number: TransactionNumber) -> Verdict
-    ensures { result ≡ verdict_at request.now.share verdicts.now number }
+fn verdict_or_conflict(
+    request: &Request,
+    verdicts: &[Verdict],
+    number: TransactionNumber,
+) -> Verdict
+    ensures { result ≡ verdict_or_conflict request.now.share verdicts.now number }
 {
     let Some(place) = request.place_of(number) else {
         return Verdict::Conflict;

@@ -10,9 +10,9 @@ use Rattle.system_keys.specs.declared.location.Location.{Location}
 use Rattle.system_keys.specs.declared.location.Location.TheVariants as locations
 use Rattle.system_keys.specs.declared.tag.Tag.{Tag}
 use Rattle.system_keys.specs.AsSpecified.{unless_fault}
-use Rattle.system_keys.specs.Rows.{tag_from, Id, Servers, ids_at, counted_ids_at, servers_at, at_end, is_above, with_first, ◌>>=◌}
-use Rattle.system_keys.specs.ListedTags.{ListedTags, is_tag_above, are_tags_rising, whole_tags, first_tags_at, counted_tags_at, listed_tags_at}
-use Rattle.system_keys.specs.Locations.{behind_zeros, location_by, location_at}
+use Rattle.system_keys.specs.Rows.{tag_from, Id, Servers, ids_at, counted_ids_at, servers_at, at_end, is_id_above, with_first, ◌>>=◌}
+use Rattle.system_keys.specs.ListedTags.{ListedTags, is_tag_above, are_tags_rising, read_whole_tags, first_tags_at, counted_tags_at, listed_tags_at}
+use Rattle.system_keys.specs.Locations.{after_two_zeros, location_by, location_at}
 use Rattle.system_keys.proofs.RowLaws.{next_ids, ids_at-next, ids_at-falling}
 use Rattle.system_keys.proofs.ListedTagLaws.{successors_compare_alike, three_more, enough_whole}
 use Rattle.system_keys.proofs.LocationLaws.{first_counts, second_counts}
@@ -52,23 +52,23 @@ unfolding ids_at
 ids_stay zero before bytes more = refl
 ids_stay (suc n) before bytes more = by_length (nat_lt (length bytes) 16) refl (ids_stay n (Some (take 16 bytes)) (drop 16 bytes) more)
   where
-    by_order : (b : Bool) → 16 ≤ length bytes → is_above before (take 16 bytes) ≡ b → Stays (ids_at n (Some (take 16 bytes)) (drop 16 bytes)) more (ids_at n (Some (take 16 bytes)) (drop 16 bytes ++ more)) → Stays (cond b (next_ids n bytes) (Err faults.NotRising)) more (ids_at (suc n) before (bytes ++ more))
+    by_order : (b : Bool) → 16 ≤ length bytes → is_id_above before (take 16 bytes) ≡ b → Stays (ids_at n (Some (take 16 bytes)) (drop 16 bytes)) more (ids_at n (Some (take 16 bytes)) (drop 16 bytes ++ more)) → Stays (cond b (next_ids n bytes) (Err faults.NotRising)) more (ids_at (suc n) before (bytes ++ more))
     by_order true enough above next_stays =
         let front : take 16 (bytes ++ more) ≡ take 16 bytes = take-append-le 16 bytes more enough in
         let behind : drop 16 (bytes ++ more) ≡ drop 16 bytes ++ more = drop-append-le 16 bytes more enough in
         let still : 16 ≤ length (bytes ++ more) = omega (arith, length-append bytes more, enough) in
-        let next : ids_at (suc n) before (bytes ++ more) ≡ next_ids n (bytes ++ more) = ids_at-next n before (bytes ++ more) still (ap (is_above before) front ∙ above) in
+        let next : ids_at (suc n) before (bytes ++ more) ≡ next_ids n (bytes ++ more) = ids_at-next n before (bytes ++ more) still (ap (is_id_above before) front ∙ above) in
         let moved : next_ids n (bytes ++ more) ≡ (ids_at n (Some (take 16 bytes)) (drop 16 bytes ++ more) >>= λ r. Ok (with_first (take 16 bytes) r)) = rw (front, behind) refl in
         subst (λ (now : Result (List Id × List ℕ) RowFault). Stays (next_ids n bytes) more now) (sym (next ∙ moved))
         (first_stays (take 16 bytes) (ids_at n (Some (take 16 bytes)) (drop 16 bytes)) more _ next_stays)
     by_order false enough falling next_stays = λ other.
         let front : take 16 (bytes ++ more) ≡ take 16 bytes = take-append-le 16 bytes more enough in
         let still : 16 ≤ length (bytes ++ more) = omega (arith, length-append bytes more, enough) in
-        ids_at-falling n before (bytes ++ more) still (ap (is_above before) front ∙ falling)
+        ids_at-falling n before (bytes ++ more) still (ap (is_id_above before) front ∙ falling)
 
-    by_length : (b : Bool) → nat_lt (length bytes) 16 ≡ b → Stays (ids_at n (Some (take 16 bytes)) (drop 16 bytes)) more (ids_at n (Some (take 16 bytes)) (drop 16 bytes ++ more)) → Stays (cond b (Err faults.Truncated) (cond (is_above before (take 16 bytes)) (next_ids n bytes) (Err faults.NotRising))) more (ids_at (suc n) before (bytes ++ more))
+    by_length : (b : Bool) → nat_lt (length bytes) 16 ≡ b → Stays (ids_at n (Some (take 16 bytes)) (drop 16 bytes)) more (ids_at n (Some (take 16 bytes)) (drop 16 bytes ++ more)) → Stays (cond b (Err faults.Truncated) (cond (is_id_above before (take 16 bytes)) (next_ids n bytes) (Err faults.NotRising))) more (ids_at (suc n) before (bytes ++ more))
     by_length true short next_stays = λ other. absurd (other refl)
-    by_length false long next_stays = by_order (is_above before (take 16 bytes)) (ltb-false _ _ long) refl next_stays
+    by_length false long next_stays = by_order (is_id_above before (take 16 bytes)) (ltb-false _ _ long) refl next_stays
 
 counted_ids_stay : (bytes more : List ℕ) → Stays (counted_ids_at bytes) more (counted_ids_at (bytes ++ more))
 counted_ids_stay [] more = λ other. absurd (other refl)
@@ -86,7 +86,7 @@ falls_too true rising still falling h = h falling
 falls_too false rising still falling h = refl
 
 -- tags that stand whole and do not rise stand there still
-falling_stays : (n : ℕ) (before : Option Tag) (bytes more : List ℕ) → are_tags_rising before (whole_tags n bytes) ≡ false → are_tags_rising before (whole_tags n (bytes ++ more)) ≡ false
+falling_stays : (n : ℕ) (before : Option Tag) (bytes more : List ℕ) → are_tags_rising before (read_whole_tags n bytes) ≡ false → are_tags_rising before (read_whole_tags n (bytes ++ more)) ≡ false
 falling_stays zero before bytes more falling = absurd (cc)
 falling_stays (suc n) before [] more falling = absurd (cc)
 falling_stays (suc n) before (a ∷ []) more falling = absurd (cc)
@@ -95,19 +95,19 @@ falling_stays (suc n) before (a ∷ b ∷ c ∷ bytes) more falling =
     falls_too (is_tag_above before (tag_from a b c)) _ _ falling (falling_stays n (Some (tag_from a b c)) bytes more)
 
 -- if all tags stand there whole, what follows changes none of them
-whole_stay : (n : ℕ) (bytes more : List ℕ) → nat_lt (length (whole_tags n bytes)) n ≡ false → (whole_tags n (bytes ++ more) ≡ whole_tags n bytes) × (drop (3 * n) (bytes ++ more) ≡ drop (3 * n) bytes ++ more)
+whole_stay : (n : ℕ) (bytes more : List ℕ) → nat_lt (length (read_whole_tags n bytes)) n ≡ false → (read_whole_tags n (bytes ++ more) ≡ read_whole_tags n bytes) × (drop (3 * n) (bytes ++ more) ≡ drop (3 * n) bytes ++ more)
 whole_stay zero bytes more enough = (refl, refl)
 whole_stay (suc n) [] more enough = absurd (enough_whole n enough)
 whole_stay (suc n) (a ∷ []) more enough = absurd (enough_whole n enough)
 whole_stay (suc n) (a ∷ b ∷ []) more enough = absurd (enough_whole n enough)
 whole_stay (suc n) (a ∷ b ∷ c ∷ bytes) more enough =
-    let next = whole_stay n bytes more (sym (successors_compare_alike (length (whole_tags n bytes)) n) ∙ enough) in
+    let next = whole_stay n bytes more (sym (successors_compare_alike (length (read_whole_tags n bytes)) n) ∙ enough) in
     (ap (λ (tags : List Tag). tag_from a b c ∷ tags) next.0, rw (three_more n) next.1)
 
 first_tags_stay : (n : ℕ) (bytes more : List ℕ) → Stays (first_tags_at n bytes) more (first_tags_at n (bytes ++ more))
-first_tags_stay n bytes more = by (are_tags_rising None (whole_tags n bytes)) (nat_lt (length (whole_tags n bytes)) n) refl refl
+first_tags_stay n bytes more = by (are_tags_rising None (read_whole_tags n bytes)) (nat_lt (length (read_whole_tags n bytes)) n) refl refl
   where
-    by : (rising short : Bool) → are_tags_rising None (whole_tags n bytes) ≡ rising → nat_lt (length (whole_tags n bytes)) n ≡ short → Stays (unless_fault (cond (not rising) (Some faults.NotRising) (cond short (Some faults.Truncated) None)) (whole_tags n bytes, drop (3 * n) bytes)) more (first_tags_at n (bytes ++ more))
+    by : (rising short : Bool) → are_tags_rising None (read_whole_tags n bytes) ≡ rising → nat_lt (length (read_whole_tags n bytes)) n ≡ short → Stays (unless_fault (cond (not rising) (Some faults.NotRising) (cond short (Some faults.Truncated) None)) (read_whole_tags n bytes, drop (3 * n) bytes)) more (first_tags_at n (bytes ++ more))
     by true true rises short = λ other. absurd (other refl)
     by true false rises enough =
         let same = whole_stay n bytes more enough in
@@ -143,7 +143,7 @@ pub first_fault : (bytes more : List ℕ) (fault : RowFault) → location_at byt
 first_fault bytes more fault is other = subst (λ (read : Result Location RowFault). FaultStays read (location_at (bytes ++ more))) is (location_stays bytes more) other
 
 -- a value that does not begin with a list of tags has the faults of one that names servers
-pub servers_fault_alone : (bytes : List ℕ) (fault : RowFault) → behind_zeros bytes ≡ None → (location_at bytes ≡ Err fault) ↔ (servers_at bytes ≡ Err fault)
+pub servers_fault_alone : (bytes : List ℕ) (fault : RowFault) → after_two_zeros bytes ≡ None → (location_at bytes ≡ Err fault) ↔ (servers_at bytes ≡ Err fault)
 servers_fault_alone bytes fault none =
     let is : location_at bytes ≡ location_by None bytes = ap (λ (found : Option (List ℕ)). location_by found bytes) none in
     let both = by (servers_at bytes) in

@@ -6,7 +6,7 @@ use Rattle.std.proofs.lemmas.List.{length-map}
 use Rattle.std.proofs.lemmas.List.Sums.{prefix_len-le-length, prefix_len_passes}
 use Rattle.std.specs.List.{prefix_len}
 use lib.Lanes.{chunk, zip2, mask_l, top}
-use Rattle.system_keys.specs.Text.{is_plain, ArePlain, first_set}
+use Rattle.system_keys.specs.Text.{is_plain, ArePlain, first_set_bit}
 
 -- ---- characters from one place to another
 
@@ -30,7 +30,7 @@ splat_is [] n y e = ap (λ k. replicate k y) (sym e)
 splat_is (x ∷ xs) n y e = ap (λ k. replicate k y) (sym e) ∙ ap (λ r. y ∷ r) (splat_is xs (length xs) y refl)
 
 module _ (text : List ℕ) (at n run : ℕ) (z : List ℕ) (room : at + n ≤ length text) (few : n ≤ 64)
-    (fits : (k : ℕ) → Fits w8 (get_or text k 0)) (found : run ≡ first_set (mask_l (map (top 7) z) % 2 ^ 64) n)
+    (fits : (k : ℕ) → Fits w8 (get_or text k 0)) (found : run ≡ first_set_bit (mask_l (map (top 7) z) % 2 ^ 64) n)
     (f : ℕ → ℕ) (lanes : z ≡ map f (chunk at n text)) where
   abbrev stops : ℕ → Bool
   stops x = top 7 (f x)
@@ -42,7 +42,7 @@ module _ (text : List ℕ) (at n run : ℕ) (z : List ℕ) (room : at + n ≤ le
   counted =
       let v = chunk at n text in
       let mask = ap (λ l. mask_l l % 2 ^ 64) (ap (map (top 7)) lanes ∙ map-map (top 7) f v) ∙ mask_l-mod (map stops v) 64 (omega (arith, length-map v stops, long)) in
-      found ∙ ap (λ m. first_set m n) mask ∙ first_set_mask_l stops v n long few
+      found ∙ ap (λ m. first_set_bit m n) mask ∙ first_set_mask_l stops v n long few
 
   pub run_within : run ≤ n
   run_within = omega (arith, counted, long, prefix_len-le-length (λ x. not (stops x)) (chunk at n text))

@@ -12,14 +12,14 @@ use Rattle.system_keys.specs.declared.tag_teams.TagTeamsFault.{TagTeamsFault}
 use Rattle.system_keys.specs.declared.tag_teams.TagTeamsFault.TheVariants.{NotRising, TooManyTags}
 use Rattle.system_keys.specs.AsSpecified.{unless_fault}
 use Rattle.system_keys.specs.Rows.{tag_from, tag_value, at_end, ◌>>=◌}
-use Rattle.system_keys.specs.ListedTags.{ListedTags, counted_tags, is_tag_above, are_tags_rising, tag_list_fault, listed_tags_fault, whole_tags, first_tags_at, counted_tags_at, listed_tags_at}
+use Rattle.system_keys.specs.ListedTags.{ListedTags, counted_tags, is_tag_above, are_tags_rising, tag_list_fault, listed_tags_fault, read_whole_tags, first_tags_at, counted_tags_at, listed_tags_at}
 use Rattle.system_keys.proofs.RowLaws.{bind_ok, end_value, end_content, FaultsAreContent, bind_content}
 
 -- ---- the steps of a reader
 
 -- why n tags behind another cannot be read
 abbrev pub fault_behind : Option Tag → ℕ → List ℕ → Option RowFault
-fault_behind before n bytes = cond (not (are_tags_rising before (whole_tags n bytes))) (Some faults.NotRising) (cond (nat_lt (length (whole_tags n bytes)) n) (Some faults.Truncated) None)
+fault_behind before n bytes = cond (not (are_tags_rising before (read_whole_tags n bytes))) (Some faults.NotRising) (cond (nat_lt (length (read_whole_tags n bytes)) n) (Some faults.Truncated) None)
 
 -- what stands behind n tags that stand behind another
 abbrev pub rest_behind : Option Tag → ℕ → List ℕ → Result (List ℕ) RowFault
@@ -42,7 +42,7 @@ pub three_more : (n : ℕ) → 3 * suc n ≡ suc (suc (suc (3 * n)))
 three_more n = omega arith
 
 rest_next : (n : ℕ) (before : Option Tag) (a b c : ℕ) (bytes : List ℕ) → is_tag_above before (tag_from a b c) ≡ true → rest_behind before (suc n) (a ∷ b ∷ c ∷ bytes) ≡ rest_behind (Some (tag_from a b c)) n bytes
-rest_next n before a b c bytes above = rw (above, successors_compare_alike (length (whole_tags n bytes)) n, three_more n) refl
+rest_next n before a b c bytes above = rw (above, successors_compare_alike (length (read_whole_tags n bytes)) n, three_more n) refl
 
 -- ---- the loop of the reader that keeps only what is behind
 
@@ -69,15 +69,15 @@ loop_next count i before (a ∷ b ∷ c ∷ bytes) whole more enough above told 
 -- ---- the loop that keeps the tags
 
 -- one more tag was kept
-pub whole_next : (count i : ℕ) (kept all : List Tag) (rest : List ℕ) → i < count → 3 ≤ length rest → kept ++ whole_tags (count - i) rest ≡ all → (kept ++ front_tag rest ∷ []) ++ whole_tags (count - (i + 1)) (behind_front rest) ≡ all
+pub whole_next : (count i : ℕ) (kept all : List Tag) (rest : List ℕ) → i < count → 3 ≤ length rest → kept ++ read_whole_tags (count - i) rest ≡ all → (kept ++ front_tag rest ∷ []) ++ read_whole_tags (count - (i + 1)) (behind_front rest) ≡ all
 whole_next count i kept all [] more enough told = absurd (omega arith)
 whole_next count i kept all (a ∷ []) more enough told = absurd (omega arith)
 whole_next count i kept all (a ∷ b ∷ []) more enough told = absurd (omega arith)
 whole_next count i kept all (a ∷ b ∷ c ∷ bytes) more enough told =
     let k : count - i ≡ suc (count - (i + 1)) = omega arith in
-    ap (λ (behind : List ℕ). (kept ++ tag_from a b c ∷ []) ++ whole_tags (count - (i + 1)) behind) (behind_front-is a b c bytes)
+    ap (λ (behind : List ℕ). (kept ++ tag_from a b c ∷ []) ++ read_whole_tags (count - (i + 1)) behind) (behind_front-is a b c bytes)
     ∙ append_assoc kept (tag_from a b c ∷ []) _
-    ∙ ap (λ (n : ℕ). kept ++ whole_tags n (a ∷ b ∷ c ∷ bytes)) (sym k) ∙ told
+    ∙ ap (λ (n : ℕ). kept ++ read_whole_tags n (a ∷ b ∷ c ∷ bytes)) (sym k) ∙ told
 
 -- ---- what was taken
 
@@ -92,19 +92,19 @@ no_fault false short e = absurd (cc)
 
 -- the tags that stand whole are all, and their bytes stand in front
 record Whole (n : ℕ) (bytes : List ℕ) : Type 0 where
-  parts : bytes ≡ flat_map tag_value (whole_tags n bytes) ++ drop (3 * n) bytes
-  count : length (whole_tags n bytes) ≡ n
+  parts : bytes ≡ flat_map tag_value (read_whole_tags n bytes) ++ drop (3 * n) bytes
+  count : length (read_whole_tags n bytes) ≡ n
 
 pub enough_whole : (n : ℕ) → nat_lt 0 (suc n) ≡ false → ⊥
 enough_whole n h = let t = zero_is_less n in cc
 
-whole_parts : (n : ℕ) (bytes : List ℕ) → ((i : ℕ) → get_or bytes i 0 < 256) → nat_lt (length (whole_tags n bytes)) n ≡ false → Whole n bytes
+whole_parts : (n : ℕ) (bytes : List ℕ) → ((i : ℕ) → get_or bytes i 0 < 256) → nat_lt (length (read_whole_tags n bytes)) n ≡ false → Whole n bytes
 whole_parts zero bytes fits enough = record { parts = refl; count = refl }
 whole_parts (suc n) [] fits enough = absurd (enough_whole n enough)
 whole_parts (suc n) (a ∷ []) fits enough = absurd (enough_whole n enough)
 whole_parts (suc n) (a ∷ b ∷ []) fits enough = absurd (enough_whole n enough)
 whole_parts (suc n) (a ∷ b ∷ c ∷ bytes) fits enough =
-    let more = whole_parts n bytes (λ i. fits (suc (suc (suc i)))) (sym (successors_compare_alike (length (whole_tags n bytes)) n) ∙ enough) in
+    let more = whole_parts n bytes (λ i. fits (suc (suc (suc i)))) (sym (successors_compare_alike (length (read_whole_tags n bytes)) n) ∙ enough) in
     let low_fits : c < 256 = fits 2 in
     let high_part : (256 * b + c) / 256 ≡ b = omega arith in
     let low_part : (256 * b + c) % 256 ≡ c = omega arith in
@@ -122,10 +122,10 @@ record Taken (n : ℕ) (bytes : List ℕ) (tags : List Tag) (rest : List ℕ) : 
 
 taken : (n : ℕ) (bytes : List ℕ) (tags : List Tag) (rest : List ℕ) → ((i : ℕ) → get_or bytes i 0 < 256) → first_tags_at n bytes ≡ Ok (tags, rest) → Taken n bytes tags rest
 taken n bytes tags rest fits e =
-    let u = unless_ok (fault_behind None n bytes) (whole_tags n bytes, drop (3 * n) bytes) (tags, rest) e in
-    let t = no_fault (are_tags_rising None (whole_tags n bytes)) (nat_lt (length (whole_tags n bytes)) n) u.0 in
+    let u = unless_ok (fault_behind None n bytes) (read_whole_tags n bytes, drop (3 * n) bytes) (tags, rest) e in
+    let t = no_fault (are_tags_rising None (read_whole_tags n bytes)) (nat_lt (length (read_whole_tags n bytes)) n) u.0 in
     let w = whole_parts n bytes fits t.1 in
-    let tags_is : whole_tags n bytes ≡ tags = ap (λ (p : List Tag × List ℕ). p.0) u.1 in
+    let tags_is : read_whole_tags n bytes ≡ tags = ap (λ (p : List Tag × List ℕ). p.0) u.1 in
     let rest_is : drop (3 * n) bytes ≡ rest = ap (λ (p : List Tag × List ℕ). p.1) u.1 in
     record {
       parts = w.parts ∙ ap₂ (λ (ts : List Tag) (r : List ℕ). flat_map tag_value ts ++ r) tags_is rest_is;
@@ -173,7 +173,7 @@ lists_spelled bytes tags fits e =
 
 -- ---- what was written is read again
 
-whole_again : (tags : List Tag) (rest : List ℕ) → whole_tags (length tags) (flat_map tag_value tags ++ rest) ≡ tags
+whole_again : (tags : List Tag) (rest : List ℕ) → read_whole_tags (length tags) (flat_map tag_value tags ++ rest) ≡ tags
 whole_again [] rest = refl
 whole_again (tag ∷ tags) rest =
     let id_is : 256 * (tag.id / 256) + tag.id % 256 ≡ tag.id = omega arith in
@@ -213,7 +213,7 @@ tests_content false short y = refl
 
 counted_content : (bytes : List ℕ) → FaultsAreContent (counted_tags_at bytes)
 counted_content [] = refl
-counted_content (count ∷ bytes) = tests_content (are_tags_rising None (whole_tags count bytes)) (nat_lt (length (whole_tags count bytes)) count) (whole_tags count bytes, drop (3 * count) bytes)
+counted_content (count ∷ bytes) = tests_content (are_tags_rising None (read_whole_tags count bytes)) (nat_lt (length (read_whole_tags count bytes)) count) (read_whole_tags count bytes, drop (3 * count) bytes)
 
 pub lists_content : (bytes : List ℕ) → FaultsAreContent (listed_tags_at bytes)
 lists_content bytes =

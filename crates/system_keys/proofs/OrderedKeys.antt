@@ -8,7 +8,7 @@ use Rattle.std.specs.Ordering.{ordering_then, MatchOrdering}
 use Rattle.std.proofs.lemmas.Cmp.{ranked}
 use Rattle.std.proofs.lemmas.List.FromFn.{fill_by_all}
 use Rattle.system_keys.specs.Keys.{Key}
-use Rattle.system_keys.specs.OrderedKeys.{front_from, front_of, key_of}
+use Rattle.system_keys.specs.OrderedKeys.{front_from, front_and_length, key_of}
 use Rattle.system_keys.specs.Rows.{AreBytes}
 
 -- The digits so far, then the next `places` bytes as digits, and then how many bytes there were, or
@@ -138,8 +138,8 @@ front_is (suc n) before (suc count) last [] some all = absurd (omega arith)
 front_is (suc n) before (suc count) last (byte ∷ key) some all = ap (λ (xs : List ℕ). byte ∷ xs) (front_is n (before + 1) count last key (omega arith) (omega arith))
 
 -- the number of the bytes is the head
-pub head_is : (key : Key) → from_be_bytes w128 (front_of key) ≡ head_of key
-head_is key = sixteen (front_of key) (length-front 15 0 key) ∙ head_of_front 15 0 0 key
+pub head_is : (key : Key) → from_be_bytes w128 (front_and_length key) ≡ head_of key
+head_is key = sixteen (front_and_length key) (length-front 15 0 key) ∙ head_of_front 15 0 0 key
 
 -- ---- a key stands in its front, if it is short
 
@@ -155,20 +155,20 @@ begins_front zero count (byte ∷ key) few = absurd (omega arith)
 begins_front (suc n) count (byte ∷ key) few = ap (λ (xs : List ℕ). byte ∷ xs) (begins_front n (count + 1) key (omega arith))
 
 -- the count of a front tells a short key from a longer one
-pub counted : (key : Key) → get_or (front_of key) 15 0 ≡ min (length key) 16
+pub counted : (key : Key) → get_or (front_and_length key) 15 0 ≡ min (length key) 16
 counted key = last_of_front 15 0 key ∙ omega arith
 
-pub short_is : (key whole : Key) → length key ≤ 15 → key_of (front_of key) whole ≡ key
+pub short_is : (key whole : Key) → length key ≤ 15 → key_of (front_and_length key) whole ≡ key
 short_is key whole few =
-    let count : get_or (front_of key) 15 0 ≡ length key = counted key ∙ omega arith in
-    ap (λ n. if nat_le n 15 then take n (front_of key) else whole) count
-    ∙ ap (λ b. if b then take (length key) (front_of key) else whole) (le-leb (length key) 15 few)
+    let count : get_or (front_and_length key) 15 0 ≡ length key = counted key ∙ omega arith in
+    ap (λ n. if nat_le n 15 then take n (front_and_length key) else whole) count
+    ∙ ap (λ b. if b then take (length key) (front_and_length key) else whole) (le-leb (length key) 15 few)
     ∙ begins_front 15 0 key few
 
-pub long_is : (key : Key) → 15 < length key → key_of (front_of key) key ≡ key
+pub long_is : (key : Key) → 15 < length key → key_of (front_and_length key) key ≡ key
 long_is key many =
-    let count : get_or (front_of key) 15 0 ≡ 16 = counted key ∙ omega arith in
-    ap (λ n. if nat_le n 15 then take n (front_of key) else key) count
+    let count : get_or (front_and_length key) 15 0 ≡ 16 = counted key ∙ omega arith in
+    ap (λ n. if nat_le n 15 then take n (front_and_length key) else key) count
 
 -- ---- a short key is the only one with its front
 

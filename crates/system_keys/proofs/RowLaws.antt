@@ -13,7 +13,7 @@ use Rattle.system_keys.specs.declared.teams.TeamsFault.TheVariants.{NotRising, T
 use Rattle.system_keys.specs.declared.tag.Tag.{Tag}
 use Rattle.system_keys.specs.AsSpecified.{IsFaultOf}
 use Rattle.system_keys.specs.Refusals.{row_fault}
-use Rattle.system_keys.specs.Rows.{Id, Servers, HaveSpelling, tag_at, tag_value, ids_at, ids_in, counted_ids, counted_ids_at, team_fault, servers_fault, servers_at, at_end, is_of_rows, key_servers_value, ◌>>=◌, with_first, is_above, are_rising, are_ids}
+use Rattle.system_keys.specs.Rows.{Id, Servers, HaveSpelling, tag_at, tag_value, ids_at, ids_in, counted_ids, counted_ids_at, id_list_fault, servers_fault, servers_at, at_end, is_of_rows, key_servers_value, ◌>>=◌, with_first, is_id_above, are_ids_rising, are_ids}
 
 -- what is behind the ids
 abbrev pub rest_of : Result (List Id × List ℕ) RowFault → Result (List ℕ) RowFault
@@ -35,20 +35,20 @@ ids_at-short n before bytes short =
     let t : nat_lt (length bytes) 16 ≡ true = grind (arith, nat_tests) in
     rw t refl
 
-pub ids_at-falling : (n : ℕ) (before : Option Id) (bytes : List ℕ) → 16 ≤ length bytes → is_above before (take 16 bytes) ≡ false → ids_at (suc n) before bytes ≡ Err faults.NotRising
+pub ids_at-falling : (n : ℕ) (before : Option Id) (bytes : List ℕ) → 16 ≤ length bytes → is_id_above before (take 16 bytes) ≡ false → ids_at (suc n) before bytes ≡ Err faults.NotRising
 unfolding ids_at
 ids_at-falling n before bytes enough falling =
     let t : nat_lt (length bytes) 16 ≡ false = grind (arith, nat_tests) in
     rw (t, falling) refl
 
-pub ids_at-next : (n : ℕ) (before : Option Id) (bytes : List ℕ) → 16 ≤ length bytes → is_above before (take 16 bytes) ≡ true → ids_at (suc n) before bytes ≡ next_ids n bytes
+pub ids_at-next : (n : ℕ) (before : Option Id) (bytes : List ℕ) → 16 ≤ length bytes → is_id_above before (take 16 bytes) ≡ true → ids_at (suc n) before bytes ≡ next_ids n bytes
 unfolding ids_at
 ids_at-next n before bytes enough above =
     let t : nat_lt (length bytes) 16 ≡ false = grind (arith, nat_tests) in
     rw (t, above) refl
 
 -- a step of the reader that keeps only what is behind
-pub rest_of-next : (n : ℕ) (before : Option Id) (bytes : List ℕ) → 16 ≤ length bytes → is_above before (take 16 bytes) ≡ true → rest_of (ids_at (suc n) before bytes) ≡ rest_of (ids_at n (Some (take 16 bytes)) (drop 16 bytes))
+pub rest_of-next : (n : ℕ) (before : Option Id) (bytes : List ℕ) → 16 ≤ length bytes → is_id_above before (take 16 bytes) ≡ true → rest_of (ids_at (suc n) before bytes) ≡ rest_of (ids_at n (Some (take 16 bytes)) (drop 16 bytes))
 rest_of-next n before bytes enough above = ap rest_of (ids_at-next n before bytes enough above) ∙ rest_of-next_ids (take 16 bytes) _
 
 -- ---- what was taken
@@ -60,12 +60,12 @@ bind_ok (Err fault) f y e = absurd cc
 -- the first id of those that were read
 record First (n : ℕ) (before : Option Id) (bytes : List ℕ) (ids : List Id) (rest : List ℕ) : Type 0 where
   enough : 16 ≤ length bytes
-  above : is_above before (take 16 bytes) ≡ true
+  above : is_id_above before (take 16 bytes) ≡ true
   more : List Id
   ids_is : ids ≡ take 16 bytes ∷ more
   next : ids_at n (Some (take 16 bytes)) (drop 16 bytes) ≡ Ok (more, rest)
 
-by_order : (n : ℕ) (before : Option Id) (bytes : List ℕ) (ids : List Id) (rest : List ℕ) (b : Bool) → 16 ≤ length bytes → is_above before (take 16 bytes) ≡ b → cond b (next_ids n bytes) (Err faults.NotRising) ≡ Ok (ids, rest) → First n before bytes ids rest
+by_order : (n : ℕ) (before : Option Id) (bytes : List ℕ) (ids : List Id) (rest : List ℕ) (b : Bool) → 16 ≤ length bytes → is_id_above before (take 16 bytes) ≡ b → cond b (next_ids n bytes) (Err faults.NotRising) ≡ Ok (ids, rest) → First n before bytes ids rest
 by_order n before bytes ids rest true enough above e =
     let b = bind_ok (ids_at n (Some (take 16 bytes)) (drop 16 bytes)) (λ read. Ok (with_first (take 16 bytes) read)) (ids, rest) e in
     let first_is : with_first (take 16 bytes) b.0 ≡ (ids, rest) = cc (b.2) in
@@ -78,9 +78,9 @@ by_order n before bytes ids rest true enough above e =
     }
 by_order n before bytes ids rest false enough above e = absurd cc
 
-by_length : (n : ℕ) (before : Option Id) (bytes : List ℕ) (ids : List Id) (rest : List ℕ) (b : Bool) → nat_lt (length bytes) 16 ≡ b → cond b (Err faults.Truncated) (cond (is_above before (take 16 bytes)) (next_ids n bytes) (Err faults.NotRising)) ≡ Ok (ids, rest) → First n before bytes ids rest
+by_length : (n : ℕ) (before : Option Id) (bytes : List ℕ) (ids : List Id) (rest : List ℕ) (b : Bool) → nat_lt (length bytes) 16 ≡ b → cond b (Err faults.Truncated) (cond (is_id_above before (take 16 bytes)) (next_ids n bytes) (Err faults.NotRising)) ≡ Ok (ids, rest) → First n before bytes ids rest
 by_length n before bytes ids rest true short e = absurd cc
-by_length n before bytes ids rest false long e = by_order n before bytes ids rest (is_above before (take 16 bytes)) (ltb-false _ _ long) refl e
+by_length n before bytes ids rest false long e = by_order n before bytes ids rest (is_id_above before (take 16 bytes)) (ltb-false _ _ long) refl e
 
 first_id : (n : ℕ) (before : Option Id) (bytes : List ℕ) (ids : List Id) (rest : List ℕ) → ids_at (suc n) before bytes ≡ Ok (ids, rest) → First n before bytes ids rest
 unfolding ids_at
@@ -90,7 +90,7 @@ first_id n before bytes ids rest e = by_length n before bytes ids rest (nat_lt (
 pub record Taken (n : ℕ) (before : Option Id) (bytes : List ℕ) (ids : List Id) (rest : List ℕ) : Type 0 where
   pub parts : bytes ≡ flat_map (λ (id : Id). id) ids ++ rest
   pub count : length ids ≡ n
-  pub rising : are_rising before ids ≡ true
+  pub rising : are_ids_rising before ids ≡ true
   pub wide : are_ids ids ≡ true
   pub are_first : ids ≡ ids_in n bytes
   pub enough : 16 * n ≤ length bytes
@@ -144,7 +144,7 @@ pub ids_at-fault : (n : ℕ) (before : Option Id) (bytes : List ℕ) (fault : Ro
 ids_at-fault n before bytes fault r = fault_was (ids_at n before bytes) fault r
 
 -- the loop goes on behind an id that is above the one before it
-pub loop_next : (count i : ℕ) (before : Option Id) (rest : List ℕ) (whole : Result (List ℕ) RowFault) → i < count → 16 ≤ length rest → is_above before (take 16 rest) ≡ true → rest_of (ids_at (count - i) before rest) ≡ whole → rest_of (ids_at (count - (i + 1)) (Some (take 16 rest)) (drop 16 rest)) ≡ whole
+pub loop_next : (count i : ℕ) (before : Option Id) (rest : List ℕ) (whole : Result (List ℕ) RowFault) → i < count → 16 ≤ length rest → is_id_above before (take 16 rest) ≡ true → rest_of (ids_at (count - i) before rest) ≡ whole → rest_of (ids_at (count - (i + 1)) (Some (take 16 rest)) (drop 16 rest)) ≡ whole
 loop_next count i before rest whole more enough above told =
     let k : count - i ≡ suc (count - (i + 1)) = omega arith in
     sym (rest_of-next (count - (i + 1)) before rest enough above) ∙ ap (λ (n : ℕ). rest_of (ids_at n before rest)) (sym k) ∙ told
@@ -155,7 +155,7 @@ loop_short count i before rest bytes more short told =
     let k : count - i ≡ suc (count - (i + 1)) = omega arith in
     ids_at-fault count None bytes faults.Truncated (sym told ∙ ap (λ (n : ℕ). rest_of (ids_at n before rest)) k ∙ ap rest_of (ids_at-short (count - (i + 1)) before rest short))
 
-pub loop_falling : (count i : ℕ) (before : Option Id) (rest bytes : List ℕ) → i < count → 16 ≤ length rest → is_above before (take 16 rest) ≡ false → rest_of (ids_at (count - i) before rest) ≡ rest_of (ids_at count None bytes) → ids_at count None bytes ≡ Err faults.NotRising
+pub loop_falling : (count i : ℕ) (before : Option Id) (rest bytes : List ℕ) → i < count → 16 ≤ length rest → is_id_above before (take 16 rest) ≡ false → rest_of (ids_at (count - i) before rest) ≡ rest_of (ids_at count None bytes) → ids_at count None bytes ≡ Err faults.NotRising
 loop_falling count i before rest bytes more enough falling told =
     let k : count - i ≡ suc (count - (i + 1)) = omega arith in
     ids_at-fault count None bytes faults.NotRising (sym told ∙ ap (λ (n : ℕ). rest_of (ids_at n before rest)) k ∙ ap rest_of (ids_at-falling (count - (i + 1)) before rest enough falling))
@@ -172,13 +172,13 @@ loop_done count i before rest bytes over told =
 
 -- ---- what was written is read again
 
-again_first : (id : Id) (ids : List Id) (before : Option Id) (rest : List ℕ) → length id ≡ 16 → is_above before id ≡ true → ids_at (length ids) (Some id) (flat_map (λ (i : Id). i) ids ++ rest) ≡ Ok (ids, rest) → ids_at (suc (length ids)) before ((id ++ flat_map (λ (i : Id). i) ids) ++ rest) ≡ Ok (id ∷ ids, rest)
+again_first : (id : Id) (ids : List Id) (before : Option Id) (rest : List ℕ) → length id ≡ 16 → is_id_above before id ≡ true → ids_at (length ids) (Some id) (flat_map (λ (i : Id). i) ids ++ rest) ≡ Ok (ids, rest) → ids_at (suc (length ids)) before ((id ++ flat_map (λ (i : Id). i) ids) ++ rest) ≡ Ok (id ∷ ids, rest)
 again_first id ids before rest wide above more =
     let bytes : List ℕ = (id ++ flat_map (λ (i : Id). i) ids) ++ rest in
     let front : take 16 bytes ≡ id = ap (take 16) (append_assoc id _ rest) ∙ take_at id _ 16 wide in
     let behind : drop 16 bytes ≡ flat_map (λ (i : Id). i) ids ++ rest = ap (drop 16) (append_assoc id _ rest) ∙ drop_at id _ 16 wide in
     let enough : 16 ≤ length bytes = omega (arith, length-append (id ++ flat_map (λ (i : Id). i) ids) rest, length-append id (flat_map (λ (i : Id). i) ids), wide) in
-    let above_it : is_above before (take 16 bytes) ≡ true = rw front above in
+    let above_it : is_id_above before (take 16 bytes) ≡ true = rw front above in
     ids_at-next (length ids) before bytes enough above_it ∙ rw (front, behind, more) refl
 
 and_left : (a b : Bool) → (a && b) ≡ true → a ≡ true
@@ -189,7 +189,7 @@ and_right : (a b : Bool) → (a && b) ≡ true → b ≡ true
 and_right true b e = e
 and_right false b e = absurd cc
 
-pub ids_again : (ids : List Id) (before : Option Id) (rest : List ℕ) → are_rising before ids ≡ true → are_ids ids ≡ true → ids_at (length ids) before (flat_map (λ (id : Id). id) ids ++ rest) ≡ Ok (ids, rest)
+pub ids_again : (ids : List Id) (before : Option Id) (rest : List ℕ) → are_ids_rising before ids ≡ true → are_ids ids ≡ true → ids_at (length ids) before (flat_map (λ (id : Id). id) ids ++ rest) ≡ Ok (ids, rest)
 unfolding ids_at
 ids_again [] before rest rising wide = refl
 ids_again (id ∷ ids) before rest rising wide =
@@ -241,11 +241,11 @@ listed (count ∷ bytes) h =
 -- what a count byte and its ids are: a team, the bytes of its spelling, and the bytes behind
 record Counted (bytes : List ℕ) (ids : List Id) (rest : List ℕ) : Type 0 where
   parts : bytes ≡ counted_ids ids ++ rest
-  team : team_fault ids ≡ None
+  team : id_list_fault ids ≡ None
   wide : are_ids ids ≡ true
   fits : (i : ℕ) → get_or rest i 0 < 256
 
-team_from : (ids : List Id) → length ids < 256 → are_rising None ids ≡ true → team_fault ids ≡ None
+team_from : (ids : List Id) → length ids < 256 → are_ids_rising None ids ≡ true → id_list_fault ids ≡ None
 team_from ids few rising =
     let t : nat_lt 255 (length ids) ≡ false = grind (arith, nat_tests) in
     rw (t, rising) refl
@@ -264,7 +264,7 @@ counted (count ∷ bytes) ids rest fits e =
 -- the two lists of a value, one behind the other
 pub record Read (bytes : List ℕ) (sources destinations : List Id) : Type 0 where
   pub spelled : counted_ids sources ++ counted_ids destinations ≡ bytes
-  pub team : option_or (team_fault sources) (team_fault destinations) ≡ None
+  pub team : option_or (id_list_fault sources) (id_list_fault destinations) ≡ None
 
 end_is : (servers : Servers) (rest : List ℕ) → IsOk (at_end servers rest) → rest ≡ []
 end_is servers [] h = refl
@@ -288,19 +288,19 @@ rising_by true b e = absurd (cc)
 rising_by false true e = refl
 rising_by false false e = absurd (cc)
 
-rising_from : (ids : List Id) → team_fault ids ≡ None → are_rising None ids ≡ true
-rising_from ids e = rising_by (nat_lt 255 (length ids)) (are_rising None ids) e
+rising_from : (ids : List Id) → id_list_fault ids ≡ None → are_ids_rising None ids ≡ true
+rising_from ids e = rising_by (nat_lt 255 (length ids)) (are_ids_rising None ids) e
 
 no_fault : (a b : Option TeamsFault) → option_or a b ≡ None → (a ≡ None) × (b ≡ None)
 no_fault (Some fault) b e = absurd (cc)
 no_fault None b e = (refl, e)
 
-counted_again : (ids : List Id) (rest : List ℕ) → team_fault ids ≡ None → are_ids ids ≡ true → counted_ids_at (counted_ids ids ++ rest) ≡ Ok (ids, rest)
+counted_again : (ids : List Id) (rest : List ℕ) → id_list_fault ids ≡ None → are_ids ids ≡ true → counted_ids_at (counted_ids ids ++ rest) ≡ Ok (ids, rest)
 counted_again ids rest team wide = ids_again ids None rest (rising_from ids team) wide
 
 pub servers_again : (servers : Servers) → servers_fault servers ≡ None → are_ids servers.sources ≡ true → are_ids servers.destinations ≡ true → servers_at (key_servers_value servers) ≡ Ok servers
 servers_again servers team first second =
-    let parts = no_fault (team_fault servers.sources) (team_fault servers.destinations) team in
+    let parts = no_fault (id_list_fault servers.sources) (id_list_fault servers.destinations) team in
     let last : counted_ids_at (counted_ids servers.destinations) ≡ Ok (servers.destinations, []) = ap counted_ids_at (sym (append-nil (counted_ids servers.destinations))) ∙ counted_again servers.destinations [] parts.1 second in
     rw (counted_again servers.sources (counted_ids servers.destinations) parts.0 first, last) refl
 
@@ -323,7 +323,7 @@ unfolding ids_at
 ids_content zero before bytes = tt
 ids_content (suc n) before bytes =
     cond_content (nat_lt (length bytes) 16) _ _ refl
-    (cond_content (is_above before (take 16 bytes)) (next_ids n bytes) (Err faults.NotRising)
+    (cond_content (is_id_above before (take 16 bytes)) (next_ids n bytes) (Err faults.NotRising)
     (bind_content (ids_at n (Some (take 16 bytes)) (drop 16 bytes)) _ (ids_content n (Some (take 16 bytes)) (drop 16 bytes)) (λ read. tt))
     refl)
 

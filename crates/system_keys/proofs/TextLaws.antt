@@ -5,20 +5,20 @@ use Rattle.std.specs.Char.{digit_char}
 use Rattle.std.proofs.lemmas.Bool.Decides.{nat_tests}
 use Rattle.std.proofs.lemmas.Bool.{and_parts, eqb-true}
 use Rattle.std.proofs.lemmas.List.{append-nil}
-use Rattle.system_keys.specs.Text.{is_plain, ArePlain, byte_text, text_of, is_digit, digit_of, byte_of, is_escape, with_byte, bytes_of, first_of}
+use Rattle.system_keys.specs.Text.{is_plain, ArePlain, byte_text, text_of, is_lower_hex_digit, value_of_hex_digit, byte_of_hex_digits, is_escape, with_byte, bytes_of, first_of}
 
 -- ---- digits
 
-pub char_of_digit : (character : ℕ) → is_digit character ≡ true → digit_char (digit_of character) ≡ character
+pub char_of_digit : (character : ℕ) → is_lower_hex_digit character ≡ true → digit_char (value_of_hex_digit character) ≡ character
 char_of_digit character h = grind (arith, nat_tests)
 
-digit_below : (character : ℕ) → is_digit character ≡ true → digit_of character < 16
+digit_below : (character : ℕ) → is_lower_hex_digit character ≡ true → value_of_hex_digit character < 16
 digit_below character h = grind (arith, nat_tests)
 
-is_digit_char : (value : ℕ) → value < 16 → is_digit (digit_char value) ≡ true
+is_digit_char : (value : ℕ) → value < 16 → is_lower_hex_digit (digit_char value) ≡ true
 is_digit_char value h = grind (arith, nat_tests)
 
-digit_of_char : (value : ℕ) → value < 16 → digit_of (digit_char value) ≡ value
+digit_of_char : (value : ℕ) → value < 16 → value_of_hex_digit (digit_char value) ≡ value
 digit_of_char value h = grind (arith, nat_tests)
 
 -- the two digits of a byte write it
@@ -40,9 +40,9 @@ escaped_text byte h = rw h refl
 record Escape (a b c d : ℕ) : Type 0 where
   slash : a ≡ 92
   x : b ≡ 120
-  high : is_digit c ≡ true
-  low : is_digit d ≡ true
-  other : is_plain (byte_of c d) ≡ false
+  high : is_lower_hex_digit c ≡ true
+  low : is_lower_hex_digit d ≡ true
+  other : is_plain (byte_of_hex_digits c d) ≡ false
 
 not_plain : (b : Bool) → not b ≡ true → b ≡ false
 not_plain true h = absurd (cc)
@@ -50,16 +50,16 @@ not_plain false h = refl
 
 escape_parts : (a b c d : ℕ) → is_escape a b c d ≡ true → Escape a b c d
 escape_parts a b c d h =
-    let p = and_parts ((a == 92) && (b == 120) && is_digit c && is_digit d) (not (is_plain (byte_of c d))) h in
-    let q = and_parts ((a == 92) && (b == 120) && is_digit c) (is_digit d) p.0 in
-    let r = and_parts ((a == 92) && (b == 120)) (is_digit c) q.0 in
+    let p = and_parts ((a == 92) && (b == 120) && is_lower_hex_digit c && is_lower_hex_digit d) (not (is_plain (byte_of_hex_digits c d))) h in
+    let q = and_parts ((a == 92) && (b == 120) && is_lower_hex_digit c) (is_lower_hex_digit d) p.0 in
+    let r = and_parts ((a == 92) && (b == 120)) (is_lower_hex_digit c) q.0 in
     let s = and_parts (a == 92) (b == 120) r.0 in
     record { slash = eqb-true a 92 s.0; x = eqb-true b 120 s.1; high = r.1; low = q.1; other = not_plain _ p.1 }
 
-escape_text : (a b c d : ℕ) → Escape a b c d → byte_text (byte_of c d) ≡ a ∷ b ∷ c ∷ d ∷ []
+escape_text : (a b c d : ℕ) → Escape a b c d → byte_text (byte_of_hex_digits c d) ≡ a ∷ b ∷ c ∷ d ∷ []
 escape_text a b c d e =
-    let lt : digit_of d < 16 = digit_below d e.low in
-    escaped_text (byte_of c d) e.other ∙ rw (high_part (digit_of c) (digit_of d) lt, low_part (digit_of c) (digit_of d) lt, char_of_digit c e.high, char_of_digit d e.low, e.slash, e.x) refl
+    let lt : value_of_hex_digit d < 16 = digit_below d e.low in
+    escaped_text (byte_of_hex_digits c d) e.other ∙ rw (high_part (value_of_hex_digit c) (value_of_hex_digit d) lt, low_part (value_of_hex_digit c) (value_of_hex_digit d) lt, char_of_digit c e.high, char_of_digit d e.low, e.slash, e.x) refl
 
 -- ---- what a text spells is spelled so
 
@@ -79,9 +79,9 @@ plain_spelled true a tail read other bytes plain e inner outer =
     rw (w.bytes_are, plain_text a plain) (ap (λ (text : List ℕ). a ∷ text) (inner w.more w.read_is))
 plain_spelled false a tail read other bytes plain e inner outer = outer plain e
 
-escape_spelled : (t : Bool) (a b c d : ℕ) (rest : List ℕ) (read : Option (List ℕ)) (bytes : List ℕ) → is_escape a b c d ≡ t → cond t (with_byte (byte_of c d) read) None ≡ Some bytes → ((more : List ℕ) → read ≡ Some more → rest ≡ text_of more) → a ∷ b ∷ c ∷ d ∷ rest ≡ text_of bytes
+escape_spelled : (t : Bool) (a b c d : ℕ) (rest : List ℕ) (read : Option (List ℕ)) (bytes : List ℕ) → is_escape a b c d ≡ t → cond t (with_byte (byte_of_hex_digits c d) read) None ≡ Some bytes → ((more : List ℕ) → read ≡ Some more → rest ≡ text_of more) → a ∷ b ∷ c ∷ d ∷ rest ≡ text_of bytes
 escape_spelled true a b c d rest read bytes is e inner =
-    let w = with_byte_is (byte_of c d) read bytes e in
+    let w = with_byte_is (byte_of_hex_digits c d) read bytes e in
     let front = escape_text a b c d (escape_parts a b c d is) in
     rw (w.bytes_are) (ap (λ (text : List ℕ). a ∷ b ∷ c ∷ d ∷ text) (inner w.more w.read_is) ∙ ap (λ (text : List ℕ). text ++ text_of w.more) (sym front))
 escape_spelled false a b c d rest read bytes is e inner = absurd (cc)
@@ -107,11 +107,11 @@ bytes_of-plain a (b ∷ []) h = rw h refl
 bytes_of-plain a (b ∷ c ∷ []) h = rw h refl
 bytes_of-plain a (b ∷ c ∷ d ∷ rest) h = rw h refl
 
-bytes_of-escape : (c d : ℕ) (rest : List ℕ) → is_digit c ≡ true → is_digit d ≡ true → is_plain (byte_of c d) ≡ false → bytes_of (92 ∷ 120 ∷ c ∷ d ∷ rest) ≡ with_byte (byte_of c d) (bytes_of rest)
+bytes_of-escape : (c d : ℕ) (rest : List ℕ) → is_lower_hex_digit c ≡ true → is_lower_hex_digit d ≡ true → is_plain (byte_of_hex_digits c d) ≡ false → bytes_of (92 ∷ 120 ∷ c ∷ d ∷ rest) ≡ with_byte (byte_of_hex_digits c d) (bytes_of rest)
 unfolding bytes_of
 bytes_of-escape c d rest high low other = rw (high, low, other) refl
 
-written : (byte : ℕ) → byte < 256 → byte_of (digit_char (byte / 16)) (digit_char (byte % 16)) ≡ byte
+written : (byte : ℕ) → byte < 256 → byte_of_hex_digits (digit_char (byte / 16)) (digit_char (byte % 16)) ≡ byte
 written byte fits =
     let high : byte / 16 < 16 = omega arith in
     let low : byte % 16 < 16 = omega arith in
@@ -123,7 +123,7 @@ byte_again false byte text fits h =
     let high : byte / 16 < 16 = omega arith in
     let low : byte % 16 < 16 = omega arith in
     let same = written byte fits in
-    let other : is_plain (byte_of (digit_char (byte / 16)) (digit_char (byte % 16))) ≡ false = rw same h in
+    let other : is_plain (byte_of_hex_digits (digit_char (byte / 16)) (digit_char (byte % 16))) ≡ false = rw same h in
     rw (escaped_text byte h) (bytes_of-escape _ _ text (is_digit_char (byte / 16) high) (is_digit_char (byte % 16) low) other ∙ ap (λ (b : ℕ). with_byte b (bytes_of text)) same)
 
 bytes_of-none : bytes_of [] ≡ Some []
@@ -151,7 +151,7 @@ bytes_of-first a [] = by_test (is_plain a) (Some (a, [])) None None refl
 bytes_of-first a (b ∷ []) = by_test (is_plain a) (Some (a, b ∷ [])) None None refl
 bytes_of-first a (b ∷ c ∷ []) = by_test (is_plain a) (Some (a, b ∷ c ∷ [])) None None refl
 bytes_of-first a (b ∷ c ∷ d ∷ rest) =
-    by_test (is_plain a) (Some (a, b ∷ c ∷ d ∷ rest)) _ _ (by_test (is_escape a b c d) (Some (byte_of c d, rest)) None None refl)
+    by_test (is_plain a) (Some (a, b ∷ c ∷ d ∷ rest)) _ _ (by_test (is_escape a b c d) (Some (byte_of_hex_digits c d, rest)) None None refl)
 
 -- a text whose first byte is known
 pub bytes_of-next : (text : List ℕ) (byte : ℕ) (rest : List ℕ) → first_of text ≡ Some (byte, rest) → bytes_of text ≡ with_byte byte (bytes_of rest)

@@ -119,8 +119,8 @@ is_kept_kind kinds.NonMetadata = false
 is_kept_kind kinds.Normal = false
 
 -- the metadata keeps a row at this key
-abbrev pub is_kept : Key → Bool
-is_kept key = is_kept_kind (kind_of key)
+abbrev pub is_kept_key : Key → Bool
+is_kept_key key = is_kept_kind (kind_of key)
 
 -- some of the families has the key
 abbrev pub is_in_some : List Family → Key → Bool

@@ -72,24 +72,24 @@ abbrev pub tag_length : ℕ
 tag_length = 3
 
 -- the tags that stand whole at the front, the first n at most
-abbrev pub whole_tags : ℕ → List ℕ → List Tag
-whole_tags zero bytes = []
-whole_tags (suc n) (locality ∷ high ∷ low ∷ bytes) =
-    tag_from locality high low ∷ whole_tags n bytes
-whole_tags (suc n) bytes = []
+abbrev pub read_whole_tags : ℕ → List ℕ → List Tag
+read_whole_tags zero bytes = []
+read_whole_tags (suc n) (locality ∷ high ∷ low ∷ bytes) =
+    tag_from locality high low ∷ read_whole_tags n bytes
+read_whole_tags (suc n) bytes = []
 
 -- Why n tags cannot be read from the front: of those that stand there whole, one is not above the
 -- one before it; otherwise, fewer than n stand there whole.
 abbrev pub first_tags_fault : ℕ → List ℕ → Option RowFault
 first_tags_fault n bytes =
-    if not (are_tags_rising None (whole_tags n bytes)) then Some faults.NotRising
-    else if nat_lt (length (whole_tags n bytes)) n then Some faults.Truncated
+    if not (are_tags_rising None (read_whole_tags n bytes)) then Some faults.NotRising
+    else if nat_lt (length (read_whole_tags n bytes)) n then Some faults.Truncated
     else None
 
 -- n tags from the front, and the bytes behind them
 abbrev pub first_tags_at : ℕ → List ℕ → Result (List Tag × List ℕ) RowFault
 first_tags_at n bytes =
-    unless_fault (first_tags_fault n bytes) (whole_tags n bytes, drop (tag_length * n) bytes)
+    unless_fault (first_tags_fault n bytes) (read_whole_tags n bytes, drop (tag_length * n) bytes)
 
 -- a count byte, and that many tags
 abbrev pub counted_tags_at : List ℕ → Result (List Tag × List ℕ) RowFault
@@ -99,7 +99,7 @@ counted_tags_at (count ∷ bytes) = first_tags_at count bytes
 -- as many tags as the count byte says, of those that stand behind it whole
 abbrev pub whole_tags_counted : List ℕ → List Tag
 whole_tags_counted [] = []
-whole_tags_counted (count ∷ bytes) = whole_tags count bytes
+whole_tags_counted (count ∷ bytes) = read_whole_tags count bytes
 
 -- the two lists of tags that stand behind the two zero bytes, or their first fault
 abbrev pub listed_tags_at : List ℕ → Result ListedTags RowFault

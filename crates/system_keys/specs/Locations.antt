@@ -22,10 +22,10 @@ HasValue (Tags tags) = listed_tags_fault tags ≡ None
 
 -- The bytes behind the two zero bytes with which a list of tags begins. Two zero bytes alone are the
 -- servers of two empty lists, so at least one byte stands behind them.
-abbrev pub behind_zeros : List ℕ → Option (List ℕ)
-behind_zeros (first ∷ second ∷ byte ∷ bytes) =
+abbrev pub after_two_zeros : List ℕ → Option (List ℕ)
+after_two_zeros (first ∷ second ∷ byte ∷ bytes) =
     if nat_eq first 0 && nat_eq second 0 then Some (byte ∷ bytes) else None
-behind_zeros _ = None
+after_two_zeros _ = None
 
 -- the location of a value, by the bytes behind its two zero bytes, if it begins with them
 abbrev pub location_by : Option (List ℕ) → List ℕ → Result Location RowFault
@@ -34,7 +34,7 @@ location_by None bytes = servers_at bytes >>= λ servers. Ok (Servers servers)
 
 -- the location that a keyServers value gives, or its first fault
 abbrev pub location_at : List ℕ → Result Location RowFault
-location_at bytes = location_by (behind_zeros bytes) bytes
+location_at bytes = location_by (after_two_zeros bytes) bytes
 
 -- the value decodes, where rows of this kind have a form
 abbrev pub is_row_value : RowKind → List ℕ → Bool

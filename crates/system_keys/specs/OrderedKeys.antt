@@ -11,8 +11,8 @@ front_from (suc places) count [] = 0 ∷ front_from places count []
 front_from (suc places) count (byte ∷ key) = byte ∷ front_from places (count + 1) key
 
 -- the first 15 bytes of the key, and then how many it has, or 16 if it has more
-abbrev pub front_of : (key : Key) → List ℕ
-front_of key = front_from 15 0 key
+abbrev pub front_and_length : (key : Key) → List ℕ
+front_and_length key = front_from 15 0 key
 
 -- the key of a front: up to 15 bytes stand in it, and those of a longer key beside it
 abbrev pub key_of : (front whole : List ℕ) → Key

@@ -44,14 +44,14 @@ tag_value tag = tag.locality ∷ tag.id / 256 ∷ tag.id % 256 ∷ []
 -- ---- what may be spelled
 
 -- the id is above the one before it, if there is one
-abbrev pub is_above : Option Id → Id → Bool
-is_above None id = true
-is_above (Some before) id = is_key_below before id
+abbrev pub is_id_above : Option Id → Id → Bool
+is_id_above None id = true
+is_id_above (Some before) id = is_key_below before id
 
 -- each id is above the one before it
-abbrev pub are_rising : Option Id → List Id → Bool
-are_rising before [] = true
-are_rising before (id ∷ ids) = is_above before id && are_rising (Some id) ids
+abbrev pub are_ids_rising : Option Id → List Id → Bool
+are_ids_rising before [] = true
+are_ids_rising before (id ∷ ids) = is_id_above before id && are_ids_rising (Some id) ids
 
 -- each id has 16 bytes
 abbrev pub are_ids : List Id → Bool
@@ -62,15 +62,15 @@ abbrev pub servers_limit : ℕ
 servers_limit = 255
 
 -- why a list of ids has no spelling: a count byte can't count it, or it does not rise
-abbrev pub team_fault : List Id → Option TeamsFault
-team_fault ids =
+abbrev pub id_list_fault : List Id → Option TeamsFault
+id_list_fault ids =
     if nat_lt servers_limit (length ids) then Some TooManyServers
-    else if are_rising None ids then None
+    else if are_ids_rising None ids then None
     else Some NotRising
 
 -- why two lists have no spelling: the sources are looked at first
 abbrev pub servers_fault : Servers → Option TeamsFault
-servers_fault servers = option_or (team_fault servers.sources) (team_fault servers.destinations)
+servers_fault servers = option_or (id_list_fault servers.sources) (id_list_fault servers.destinations)
 
 -- two lists that have a spelling: each rises and is short enough, and its ids have 16 bytes
 pub record HaveSpelling (servers : Servers) : Type 0 where
@@ -96,7 +96,7 @@ unfoldable pub ids_at : ℕ → Option Id → List ℕ → Result (List Id × Li
 ids_at zero before bytes = Ok ([], bytes)
 ids_at (suc n) before bytes =
     if nat_lt (length bytes) server_id_length then Err faults.Truncated
-    else if is_above before (take server_id_length bytes) then
+    else if is_id_above before (take server_id_length bytes) then
     ids_at n (Some (take server_id_length bytes)) (drop server_id_length bytes)
     >>= (λ read. Ok (with_first (take server_id_length bytes) read))
     else Err faults.NotRising

@@ -24,22 +24,22 @@ abbrev pub text_of : List ℕ → List ℕ
 text_of bytes = flat_map byte_text bytes
 
 -- a lower-case hexadecimal digit
-abbrev pub is_digit : ℕ → Bool
-is_digit character =
+abbrev pub is_lower_hex_digit : ℕ → Bool
+is_lower_hex_digit character =
     (nat_le 48 character && nat_le character 57) || (nat_le 97 character && nat_le character 102)
 
 -- the value of a lower-case hexadecimal digit
-abbrev pub digit_of : ℕ → ℕ
-digit_of character = if nat_lt character 97 then character - 48 else character - 87
+abbrev pub value_of_hex_digit : ℕ → ℕ
+value_of_hex_digit character = if nat_lt character 97 then character - 48 else character - 87
 
 -- the byte that two digits write
-abbrev pub byte_of : ℕ → ℕ → ℕ
-byte_of high low = 16 * digit_of high + digit_of low
+abbrev pub byte_of_hex_digits : ℕ → ℕ → ℕ
+byte_of_hex_digits high low = 16 * value_of_hex_digit high + value_of_hex_digit low
 
 -- four characters are the escape of a byte that is not its own character
 abbrev pub is_escape : ℕ → ℕ → ℕ → ℕ → Bool
 is_escape slash x high low =
-    slash == 92 && x == 120 && is_digit high && is_digit low && not (is_plain (byte_of high low))
+    slash == 92 && x == 120 && is_lower_hex_digit high && is_lower_hex_digit low && not (is_plain (byte_of_hex_digits high low))
 
 -- a byte in front of those that were read, if they were
 abbrev pub with_byte : ℕ → Option (List ℕ) → Option (List ℕ)
@@ -53,7 +53,7 @@ bytes_of (a ∷ b ∷ []) = if is_plain a then with_byte a (bytes_of (b ∷ []))
 bytes_of (a ∷ b ∷ c ∷ []) = if is_plain a then with_byte a (bytes_of (b ∷ c ∷ [])) else None
 bytes_of (a ∷ b ∷ c ∷ d ∷ rest) =
     if is_plain a then with_byte a (bytes_of (b ∷ c ∷ d ∷ rest))
-    else if is_escape a b c d then with_byte (byte_of c d) (bytes_of rest)
+    else if is_escape a b c d then with_byte (byte_of_hex_digits c d) (bytes_of rest)
     else None
 
 -- the bytes of a text, or BadText
@@ -68,7 +68,7 @@ first_of (a ∷ b ∷ []) = if is_plain a then Some (a, b ∷ []) else None
 first_of (a ∷ b ∷ c ∷ []) = if is_plain a then Some (a, b ∷ c ∷ []) else None
 first_of (a ∷ b ∷ c ∷ d ∷ rest) =
     if is_plain a then Some (a, b ∷ c ∷ d ∷ rest)
-    else if is_escape a b c d then Some (byte_of c d, rest)
+    else if is_escape a b c d then Some (byte_of_hex_digits c d, rest)
     else None
 
 -- Two words of private clauses:
@@ -77,5 +77,5 @@ abbrev pub ArePlain : List ℕ → ℕ → ℕ → Type 0
 ArePlain text from to = (i : ℕ) → from ≤ i → i < to → is_plain (get_or text i 0) ≡ true
 
 -- the place of the lowest bit that is set, or else a number
-abbrev pub first_set : ℕ → ℕ → ℕ
-first_set mask other = if mask == 0 then other else trailing_zeros w64 mask
+abbrev pub first_set_bit : ℕ → ℕ → ℕ
+first_set_bit mask other = if mask == 0 then other else trailing_zeros w64 mask

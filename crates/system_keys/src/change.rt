@@ -1,10 +1,10 @@
-//! Changes of a row or of a range of rows.
+//! A change of the database: a Set of a key, or a Clear of a range.
 
 ghost use Rattle.std.specs.Prelude.{◌≡◌, IfOk, MatchResult, Some, None};
 ghost use Rattle.system_keys.specs.declared.change.Change.TheVariants.{Set, Clear};
 
 use crate::bytes::Bytes;
-use crate::limits::check_set;
+use crate::checks::check_set;
 use crate::memory::OutOfMemory;
 use crate::range::KeyRange;
 use crate::refusal::Refusal;

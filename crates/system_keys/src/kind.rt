@@ -1,7 +1,7 @@
-//! The kinds of keys.
+//! Which family of keys a key is of, and whether the metadata keeps it.
 
 ghost use Rattle.std.specs.Prelude.{◌≡◌, Ok};
-ghost use Rattle.system_keys.specs.Families.{is_in, is_kept, kind_of, server_keys_family};
+ghost use Rattle.system_keys.specs.Families.{is_in, is_kept_key, kind_of, server_keys_family};
 
 use crate::memory::OutOfMemory;
 
@@ -72,7 +72,7 @@ pub fn classify(key: &[u8]) -> RowKind
         RowKind::DatabaseLocked
     } else if key == METADATA_VERSION_KEY {
         RowKind::MetadataVersion
-    } else if is_server_keys(key) {
+    } else if is_server_keys_key(key) {
         RowKind::ServerKeys
     } else if key.starts_with(b"\xff\x02") {
         RowKind::NonMetadata
@@ -82,7 +82,7 @@ pub fn classify(key: &[u8]) -> RowKind
 }
 
 /// Whether the key is the prefix of serverKeys rows, a server id, a slash and any bytes.
-fn is_server_keys(key: &[u8]) -> bool
+fn is_server_keys_key(key: &[u8]) -> bool
     ensures { result ≡ is_in server_keys_family key.now }
 {
     let id_end = SERVER_KEYS_PREFIX.len() + SERVER_ID_LENGTH;
@@ -94,8 +94,8 @@ fn is_server_keys(key: &[u8]) -> bool
 }
 
 /// Whether the metadata keeps an entry at this key (release 7.1).
-pub fn is_kept(key: &[u8]) -> bool
-    ensures { result ≡ is_kept key.now }
+pub fn is_kept_key(key: &[u8]) -> bool
+    ensures { result ≡ is_kept_key key.now }
 {
     match classify(key) {
         RowKind::KeyServers

@@ -1,4 +1,5 @@
-//! Laws of the definitions of this crate, each the contract of a function with an empty body.
+//! Laws of kinds of keys, of the encodings of row values, of the order of tags, and of bytes as
+//! text.
 
 ghost use Rattle.std.specs.Prelude.{◌≡◌, ◌≢◌, ◌↔◌, ◌<◌, ◌++◌, ℕ, List, IsTrue, Some, None, Ok, Err};
 ghost use Rattle.std.specs.Prelude.{slice_index};
@@ -14,11 +15,12 @@ ghost use Rattle.system_keys.specs.Rows.{Servers, HaveSpelling, is_of_rows, key_
 ghost use Rattle.system_keys.specs.Rows.{servers_at, tag_value, tag_at, AreBytes};
 ghost use Rattle.system_keys.specs.ListedTags.{ListedTags, listed_tags_value, tag_cmp, IsTagBelow};
 ghost use Rattle.std.specs.declared.cmp.Ordering.TheVariants.{Less, Equal, Greater};
-ghost use Rattle.system_keys.specs.Locations.{location_value, location_at, behind_zeros, HasValue};
+ghost use Rattle.system_keys.specs.Locations.{location_value, location_at, after_two_zeros};
+ghost use Rattle.system_keys.specs.Locations.{HasValue};
 ghost use Rattle.system_keys.specs.Text.{text_of, bytes_of};
 
 /// Each key is of exactly one kind: the one whose own condition it meets.
-pub fn kind_law()
+pub fn one_kind_law()
     ensures { (key : Key) (kind : RowKind)
         → IsTrue (is_of_kind kind key) ↔ (kind_of key ≡ kind) }
 {}
@@ -26,7 +28,7 @@ pub fn kind_law()
 /// Each row value that names servers or one tag has one encoding: a value decodes only from the bytes
 /// that it encodes to, and an encoded value decodes to itself. A keyServers value has only faults of
 /// rows.
-pub fn row_law()
+pub fn one_row_encoding_law()
     ensures servers_spelled { (bytes : List ℕ) (servers : Servers)
         → AreBytes bytes → servers_at bytes ≡ Ok servers
         → (key_servers_value servers ≡ bytes) × HaveSpelling servers }
@@ -44,7 +46,7 @@ pub fn row_law()
 /// not begin a list of tags has the faults of one that names servers. The faults of a keyServers value
 /// are faults of rows, and its fault is the first from the front: unless bytes are missing, it stays,
 /// whatever bytes follow.
-pub fn location_law()
+pub fn one_location_encoding_law()
     ensures spelled { (bytes : List ℕ) (location : Location)
         → AreBytes bytes → location_at bytes ≡ Ok location
         → (location_value location ≡ bytes) × HasValue location }
@@ -55,7 +57,7 @@ pub fn location_law()
     ensures servers { (bytes : List ℕ) (servers : Servers)
         → (location_at bytes ≡ Ok (locations.Servers servers)) ↔ (servers_at bytes ≡ Ok servers) }
     ensures servers_faults { (bytes : List ℕ) (fault : RowFault)
-        → behind_zeros bytes ≡ None
+        → after_two_zeros bytes ≡ None
         → (location_at bytes ≡ Err fault) ↔ (servers_at bytes ≡ Err fault) }
     ensures faults { (bytes : List ℕ) (fault : RowFault)
         → location_at bytes ≡ Err fault → IsTrue (is_of_rows fault) }
@@ -72,7 +74,7 @@ pub fn tag_order_law()
 {}
 
 /// Each byte string has exactly one text.
-pub fn text_law()
+pub fn one_text_law()
     ensures spelled { (text bytes : List ℕ)
         → bytes_of text ≡ Some bytes → text_of bytes ≡ text }
     ensures round_trip { (bytes : List ℕ)

@@ -7,10 +7,10 @@
 
 mod bytes;
 mod change;
+mod checks;
 mod items;
 mod kind;
 mod laws;
-mod limits;
 mod location;
 mod memory;
 mod order;
@@ -18,8 +18,9 @@ mod ordered_key;
 mod plain;
 mod range;
 mod refusal;
-mod rows;
 mod server;
+mod server_rows;
+mod shared_items;
 mod state;
 mod tag;
 mod tag_rows;
@@ -29,20 +30,23 @@ mod text;
 
 pub use bytes::Bytes;
 pub use change::Change;
+pub use checks::{END_LIMIT, KEY_LIMIT, KEY_SPACE_END, VALUE_LIMIT, check_range, check_set};
 pub use items::Items;
 pub use kind::{
     KEY_SERVERS_PREFIX, LOCKED_KEY, METADATA_VERSION_KEY, RowKind, SERVER_ID_LENGTH,
-    SERVER_KEYS_PREFIX, SERVER_TAG_PREFIX, classify, is_kept,
+    SERVER_KEYS_PREFIX, SERVER_TAG_PREFIX, classify, is_kept_key,
 };
-pub use laws::{kind_law, location_law, row_law, tag_order_law, text_law};
-pub use limits::{END_LIMIT, KEY_LIMIT, KEY_SPACE_END, VALUE_LIMIT, check_range, check_set};
+pub use laws::{
+    one_kind_law, one_location_encoding_law, one_row_encoding_law, one_text_law, tag_order_law,
+};
 pub use location::{Location, decode_location};
 pub use memory::OutOfMemory;
 pub use ordered_key::{OrderedKey, SHORT_KEY};
 pub use range::KeyRange;
 pub use refusal::{Refusal, RowFault};
-pub use rows::{decode_key_servers, decode_tag, encode_key_servers, encode_tag};
 pub use server::ServerId;
+pub use server_rows::{decode_key_servers, decode_tag, encode_key_servers, encode_tag};
+pub use shared_items::SharedItems;
 pub use state::is_state;
 pub use tag::Tag;
 pub use tag_rows::encode_tag_teams;

@@ -6,15 +6,15 @@
 
 ghost use Rattle.std.specs.Prelude.{◌≡◌, IfOk, IsOk, MatchResult, Ok, Err, option_map};
 ghost use Rattle.system_keys.specs.AsSpecified.{IsAsSpecified};
-ghost use Rattle.system_keys.specs.Locations.{location_at, location_value, behind_zeros};
+ghost use Rattle.system_keys.specs.Locations.{location_at, location_value, after_two_zeros};
 ghost use Rattle.system_keys.specs.Locations.{is_row_value};
 ghost use Rattle.system_keys.specs.Refusals.{row_fault};
 
 use crate::kind::RowKind;
 use crate::memory::OutOfMemory;
 use crate::refusal::RowFault;
-use crate::rows::{check_key_servers, decode_key_servers, decode_tag};
-use crate::tag_rows::{decode_tag_lists, second_list};
+use crate::server_rows::{check_key_servers, decode_key_servers, decode_tag};
+use crate::tag_rows::{decode_tag_lists, second_tag_list};
 use crate::tag_teams::TagTeams;
 use crate::teams::Teams;
 use std::alloc::Global;
@@ -47,7 +47,7 @@ pub fn decode_location(alloc: Global, bytes: &[u8]) -> Result<Location, RowFault
     ensures value { IsAsSpecified row_fault (λ location. location) result (location_at bytes.now) }
     ensures spelled { IfOk result (λ location. location_value location ≡ bytes.now) }
 {
-    match behind_zeros(bytes) {
+    match after_two_zeros(bytes) {
         Some(lists) => Ok(Location::Tags(decode_tag_lists(alloc, lists)?)),
         None => Ok(Location::Servers(decode_key_servers(alloc, bytes)?)),
     }
@@ -69,9 +69,9 @@ fn check_location(bytes: &[u8]) -> Result<(), RowFault>
     ensures { MatchResult result (λ _. IsOk (location_at bytes.now))
         (λ fault. location_at bytes.now ≡ Err fault) }
 {
-    match behind_zeros(bytes) {
+    match after_two_zeros(bytes) {
         Some(lists) => {
-            second_list(lists)?;
+            second_tag_list(lists)?;
             Ok(())
         }
         None => check_key_servers(bytes),
@@ -79,8 +79,8 @@ fn check_location(bytes: &[u8]) -> Result<(), RowFault>
 }
 
 /// The bytes behind two zero bytes at the front of a value that lists tags.
-fn behind_zeros(bytes: &[u8]) -> Option<&[u8]>
-    ensures { option_map (λ lists. lists.now) result ≡ behind_zeros bytes.now }
+fn after_two_zeros(bytes: &[u8]) -> Option<&[u8]>
+    ensures { option_map (λ lists. lists.now) result ≡ after_two_zeros bytes.now }
 {
     match bytes {
         [first, second, lists @ ..] if *first == 0 && *second == 0 && !lists.is_empty() => {

@@ -1,9 +1,9 @@
-//! The order of keys.
+//! Comparing keys and server ids.
 
 ghost use Rattle.std.specs.Prelude.{◌≡◌, ◌&&◌};
 ghost use Rattle.std.specs.Option.{option_copied};
 ghost use Rattle.system_keys.specs.Keys.{is_key_below, is_key_up_to};
-ghost use Rattle.system_keys.specs.Rows.{is_above};
+ghost use Rattle.system_keys.specs.Rows.{is_id_above};
 
 /// Whether the key `a` is below the key `b`.
 pub(crate) fn is_key_below(a: &[u8], b: &[u8]) -> bool
@@ -27,8 +27,8 @@ pub(crate) fn both_precede(a: &[u8], b: &[u8], c: &[u8], d: &[u8]) -> bool
 }
 
 /// Whether the server id is above the previous one, if there is one.
-pub(crate) fn is_above(before: Option<&[u8]>, id: &[u8]) -> bool
-    ensures { result ≡ is_above (option_copied before.entry) id.now }
+pub(crate) fn is_id_above(before: Option<&[u8]>, id: &[u8]) -> bool
+    ensures { result ≡ is_id_above (option_copied before.entry) id.now }
 {
     match before {
         Some(before) => is_key_below(before, id),

@@ -1,7 +1,8 @@
-//! Keys that are compared by a number before their bytes.
+//! A key that keeps its first 15 bytes as a number, so that most comparisons look at no other
+//! memory.
 
 ghost use Rattle.std.specs.Prelude.{◌≡◌, ◌≤◌, length, IfOk, IsOk};
-ghost use Rattle.system_keys.specs.OrderedKeys.{front_of};
+ghost use Rattle.system_keys.specs.OrderedKeys.{front_and_length};
 ghost use Rattle.system_keys.specs.Rows.{AreBytes};
 
 use crate::memory::OutOfMemory;
@@ -27,14 +28,14 @@ pub struct OrderedKey {
 
 impl Model for OrderedKey {
     ghost use Rattle.std.specs.Prelude.{◌≡◌, ℕ, List};
-    ghost use Rattle.system_keys.specs.OrderedKeys.{front_of, key_of};
+    ghost use Rattle.system_keys.specs.OrderedKeys.{front_and_length, key_of};
     ghost use Rattle.system_keys.specs.Rows.{AreBytes};
 
     ghost Value = { List ℕ };
 
     ghost view = { λ key. key_of key.front key.whole.items };
 
-    ghost invariant = { λ key. (key.front ≡ front_of (key_of key.front key.whole.items))
+    ghost invariant = { λ key. (key.front ≡ front_and_length (key_of key.front key.whole.items))
         × AreBytes (key_of key.front key.whole.items) };
 }
 
@@ -49,7 +50,7 @@ impl OrderedKey {
             whole.extend_from_slice(bytes)?;
         }
         Ok(OrderedKey {
-            front: front_of(bytes),
+            front: front_and_length(bytes),
             whole,
         })
     }
@@ -79,7 +80,7 @@ impl From<Vec<u8>> for OrderedKey {
 
     fn from(bytes: Vec<u8>) -> OrderedKey {
         OrderedKey {
-            front: front_of(bytes.as_slice()),
+            front: front_and_length(bytes.as_slice()),
             whole: bytes,
         }
     }
@@ -159,8 +160,8 @@ impl Ord for OrderedKey {
 }
 
 /// The first bytes, with zeros past their end, and then how many there are, or 16 if more than 15.
-fn front_of(bytes: &[u8]) -> [u8; SHORT_KEY + 1]
-    ensures front { result ≡ front_of bytes.now }
+fn front_and_length(bytes: &[u8]) -> [u8; SHORT_KEY + 1]
+    ensures front { result ≡ front_and_length bytes.now }
     ensures bytes { AreBytes bytes.now }
 {
     let count = bytes.len().min(SHORT_KEY);

@@ -1,10 +1,10 @@
-//! Half-open ranges of keys.
+//! A range of keys, from its begin up to its end, without the end.
 
 ghost use Rattle.std.specs.Prelude.{◌≡◌, ◌↔◌, IsTrue, IfOk, MatchResult, None};
 ghost use Rattle.system_keys.specs.KeptRanges.{begin_of, HasFront};
 
 use crate::bytes::Bytes;
-use crate::limits::check_range;
+use crate::checks::check_range;
 use crate::memory::OutOfMemory;
 use crate::order::{both_precede, is_key_below};
 use crate::refusal::Refusal;

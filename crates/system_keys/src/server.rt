@@ -1,4 +1,4 @@
-//! Storage servers.
+//! The id of a storage server.
 
 ghost use Rattle.std.specs.Prelude.{◌≡◌, Ok, length};
 

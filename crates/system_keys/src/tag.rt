@@ -1,4 +1,4 @@
-//! Tags of storage servers.
+//! The tag of a storage server.
 
 ghost use Rattle.std.specs.Prelude.{◌≡◌, Ok};
 ghost use Rattle.system_keys.specs.Rows.{tag_from, tag_value};

@@ -11,7 +11,7 @@ ghost use Rattle.system_keys.specs.Locations.{location_at};
 ghost use Rattle.system_keys.specs.Refusals.{row_fault};
 ghost use Rattle.system_keys.specs.ListedTags.{listed_tags_value, counted_tags, tags_limit};
 ghost use Rattle.system_keys.specs.ListedTags.{listed_tags_at, counted_tags_at, first_tags_at};
-ghost use Rattle.system_keys.specs.ListedTags.{whole_tags_counted, whole_tags};
+ghost use Rattle.system_keys.specs.ListedTags.{whole_tags_counted, read_whole_tags};
 
 use crate::memory::OutOfMemory;
 use crate::refusal::RowFault;
@@ -30,13 +30,13 @@ pub fn encode_tag_teams(alloc: Global, teams: &TagTeams) -> Result<Vec<u8>, OutO
     let tags = teams.sources().len() + teams.destinations().len();
     let mut bytes = Vec::with_capacity(alloc, 4 + TAG_LENGTH * tags)?;
     bytes.extend_from_slice(&[0, 0])?;
-    push_tags(&mut bytes, teams.sources())?;
-    push_tags(&mut bytes, teams.destinations())?;
+    push_counted_tags(&mut bytes, teams.sources())?;
+    push_counted_tags(&mut bytes, teams.destinations())?;
     Ok(bytes)
 }
 
 /// Appends a count byte and the tags.
-fn push_tags(bytes: &mut Vec<u8>, tags: &[Tag]) -> Result<(), OutOfMemory>
+fn push_counted_tags(bytes: &mut Vec<u8>, tags: &[Tag]) -> Result<(), OutOfMemory>
     requires { length tags.now ≤ tags_limit }
     ensures { OnOk result (bytes.new.items ≡ bytes.old.items ++ counted_tags tags.now) }
 {
@@ -54,14 +54,14 @@ fn push_tags(bytes: &mut Vec<u8>, tags: &[Tag]) -> Result<(), OutOfMemory>
 pub(crate) fn decode_tag_lists(alloc: Global, bytes: &[u8]) -> Result<TagTeams, RowFault>
     ensures { IsAsSpecified row_fault (λ tags. tags) result (listed_tags_at bytes.now) }
 {
-    let rest = second_list(bytes)?;
-    let sources = read_tags(alloc, bytes)?;
-    let destinations = read_tags(alloc, rest)?;
+    let rest = second_tag_list(bytes)?;
+    let sources = read_counted_tags(alloc, bytes)?;
+    let destinations = read_counted_tags(alloc, rest)?;
     Ok(TagTeams::from_valid(sources, destinations))
 }
 
 /// Where the second of two lists of tags begins, or their first fault. Does not allocate.
-pub(crate) fn second_list(bytes: &[u8]) -> Result<&[u8], RowFault>
+pub(crate) fn second_tag_list(bytes: &[u8]) -> Result<&[u8], RowFault>
     ensures { MatchResult result
         (λ rest. listed_tags_at bytes.now ≡ Ok (record {
           sources = whole_tags_counted bytes.now;
@@ -69,8 +69,8 @@ pub(crate) fn second_list(bytes: &[u8]) -> Result<&[u8], RowFault>
         }))
         (λ fault. listed_tags_at bytes.now ≡ Err fault) }
 {
-    let rest = behind_counted_tags(bytes)?;
-    let end = behind_counted_tags(rest)?;
+    let rest = after_counted_tags(bytes)?;
+    let end = after_counted_tags(rest)?;
     if end.is_empty() {
         Ok(rest)
     } else {
@@ -79,21 +79,21 @@ pub(crate) fn second_list(bytes: &[u8]) -> Result<&[u8], RowFault>
 }
 
 /// The bytes after a count byte and its tags.
-fn behind_counted_tags(bytes: &[u8]) -> Result<&[u8], RowFault>
+fn after_counted_tags(bytes: &[u8]) -> Result<&[u8], RowFault>
     ensures { MatchResult result
         (λ rest. counted_tags_at bytes.now ≡ Ok (whole_tags_counted bytes.now, rest.now))
         (λ fault. counted_tags_at bytes.now ≡ Err fault) }
 {
     match bytes {
-        [count, rest @ ..] => behind_tags(*count, rest),
+        [count, rest @ ..] => after_tags(*count, rest),
         [] => Err(RowFault::Truncated),
     }
 }
 
 /// The bytes after `count` strictly increasing tags.
-fn behind_tags(count: u8, bytes: &[u8]) -> Result<&[u8], RowFault>
+fn after_tags(count: u8, bytes: &[u8]) -> Result<&[u8], RowFault>
     ensures { MatchResult result
-        (λ rest. first_tags_at count bytes.now ≡ Ok (whole_tags count bytes.now, rest.now))
+        (λ rest. first_tags_at count bytes.now ≡ Ok (read_whole_tags count bytes.now, rest.now))
         (λ fault. first_tags_at count bytes.now ≡ Err fault) }
 {
     let mut before: Option<Tag> = None;
@@ -113,18 +113,18 @@ fn behind_tags(count: u8, bytes: &[u8]) -> Result<&[u8], RowFault>
 }
 
 /// As many tags as the count byte says, of those that stand behind it whole.
-fn read_tags(alloc: Global, bytes: &[u8]) -> Result<Vec<Tag>, OutOfMemory>
+fn read_counted_tags(alloc: Global, bytes: &[u8]) -> Result<Vec<Tag>, OutOfMemory>
     ensures { IfOk result (λ tags. tags.items ≡ whole_tags_counted bytes.now) }
 {
     match bytes {
-        [count, rest @ ..] => whole_tags(alloc, *count, rest),
+        [count, rest @ ..] => read_whole_tags(alloc, *count, rest),
         [] => Ok(Vec::new(alloc)),
     }
 }
 
 /// The tags that stand whole at the front, the first `count` at most.
-fn whole_tags(alloc: Global, count: u8, bytes: &[u8]) -> Result<Vec<Tag>, OutOfMemory>
-    ensures { IfOk result (λ tags. tags.items ≡ whole_tags count bytes.now) }
+fn read_whole_tags(alloc: Global, count: u8, bytes: &[u8]) -> Result<Vec<Tag>, OutOfMemory>
+    ensures { IfOk result (λ tags. tags.items ≡ read_whole_tags count bytes.now) }
 {
     let mut tags = Vec::with_capacity(alloc, usize::from(count))?;
     let mut rest = bytes;

@@ -1,4 +1,4 @@
-//! The tags of a range of keys.
+//! The lists of source and destination tags that a keyServers value may have in place of servers.
 
 ghost use Rattle.std.specs.Prelude.{◌≡◌, IfOk, MatchResult, Some, None};
 

@@ -1,11 +1,11 @@
-//! The storage servers of a range of keys.
+//! The lists of source and destination servers of a range of keys.
 
 ghost use Rattle.std.specs.Prelude.{◌≡◌, IfOk, MatchResult, Some, None};
 ghost use Rattle.std.specs.Prelude.{length, nat_lt};
 
 use crate::items::Items;
 use crate::memory::OutOfMemory;
-use crate::order::is_above;
+use crate::order::is_id_above;
 use crate::server::ServerId;
 use std::marker::Model;
 use thiserror::Error;
@@ -59,7 +59,7 @@ impl Teams {
             (λ refused. (servers_fault servers ≡ Some refused.0)
             × (refused.1 ≡ sources) × (refused.2 ≡ destinations)) }
     {
-        let fault = team_fault(&sources).or(team_fault(&destinations));
+        let fault = id_list_fault(&sources).or(id_list_fault(&destinations));
         match fault {
             Some(fault) => Err((fault, sources, destinations)),
             None => Ok(Teams {
@@ -106,15 +106,15 @@ impl Teams {
     }
 }
 
-ghost use Rattle.system_keys.specs.Rows.{team_fault, are_rising};
+ghost use Rattle.system_keys.specs.Rows.{id_list_fault, are_ids_rising};
 
 /// The first fault of the ids as one list of a team: too many, or not rising.
-fn team_fault(ids: &[ServerId]) -> Option<TeamsFault>
-    ensures { result ≡ team_fault ids.now }
+fn id_list_fault(ids: &[ServerId]) -> Option<TeamsFault>
+    ensures { result ≡ id_list_fault ids.now }
 {
     if ids.len() > SERVERS_LIMIT {
         Some(TeamsFault::TooManyServers)
-    } else if are_rising(ids) {
+    } else if are_ids_rising(ids) {
         None
     } else {
         Some(TeamsFault::NotRising)
@@ -122,12 +122,12 @@ fn team_fault(ids: &[ServerId]) -> Option<TeamsFault>
 }
 
 /// Whether the ids rise strictly.
-fn are_rising(ids: &[ServerId]) -> bool
-    ensures { result ≡ are_rising None ids.now }
+fn are_ids_rising(ids: &[ServerId]) -> bool
+    ensures { result ≡ are_ids_rising None ids.now }
 {
     let mut before: Option<&[u8]> = None;
     for id in ids {
-        if !is_above(before, id.as_slice()) {
+        if !is_id_above(before, id.as_slice()) {
             return false;
         }
         before = Some(id.as_slice());

@@ -1,6 +1,4 @@
-//! Bytes as text: a byte from 0x21 to 0x7e, other than the double quote and the backslash, is its
-//! ASCII character, and every other byte is `\x` and two lower-case hexadecimal digits (this
-//! project's profile).
+//! Bytes as text, and back: printing, decoding, and the lengths of both.
 
 ghost use Rattle.std.specs.Prelude.{◌≡◌, ℕ, ◌+◌, ◌-◌, ◌^◌, ◌<◌, ◌≤◌, ◌++◌, true, get_or, length};
 ghost use Rattle.std.specs.Prelude.{min, string_bytes};
@@ -9,11 +7,12 @@ ghost use Rattle.std.specs.Char.{digit_char};
 ghost use Rattle.system_keys.specs.AsSpecified.{IsAsSpecified};
 ghost use Rattle.system_keys.specs.Refusals.{row_fault};
 ghost use Rattle.system_keys.specs.Text.{text_of, byte_text, bytes_of, bytes_read, first_of};
-ghost use Rattle.system_keys.specs.Text.{is_plain, is_escape, is_digit, digit_of, byte_of};
+ghost use Rattle.system_keys.specs.Text.{is_plain, is_escape, is_lower_hex_digit};
+ghost use Rattle.system_keys.specs.Text.{value_of_hex_digit, byte_of_hex_digits};
 
 use crate::bytes::{Bytes, SHORT_LENGTH};
 use crate::memory::OutOfMemory;
-use crate::plain::plain_length;
+use crate::plain::plain_front_length;
 use crate::refusal::RowFault;
 use std::alloc::Global;
 
@@ -27,7 +26,7 @@ pub fn print_bytes(alloc: Global, bytes: &[u8]) -> Result<String, OutOfMemory>
 {
     let mut text = String::with_capacity(alloc, text_length(bytes))?;
     for byte in bytes {
-        push_byte(&mut text, *byte)?;
+        push_byte_text(&mut text, *byte)?;
     }
     Ok(text)
 }
@@ -38,13 +37,13 @@ fn text_length(bytes: &[u8]) -> usize
 {
     let mut length = 0usize;
     for byte in bytes {
-        length = length.saturating_add(byte_length(*byte));
+        length = length.saturating_add(text_length_of_byte(*byte));
     }
     length
 }
 
 /// How many characters the text of the byte has.
-fn byte_length(byte: u8) -> usize
+fn text_length_of_byte(byte: u8) -> usize
     ensures { result ≡ length (byte_text byte) }
 {
     if is_plain(byte) { 1 } else { 4 }
@@ -57,7 +56,7 @@ pub(crate) fn is_plain(byte: u8) -> bool
     byte.is_ascii_graphic() && byte != b'"' && byte != b'\\'
 }
 
-fn push_byte(text: &mut String, byte: u8) -> Result<(), OutOfMemory>
+fn push_byte_text(text: &mut String, byte: u8) -> Result<(), OutOfMemory>
     ensures { OnOk result (string_bytes text.new ≡ string_bytes text.old ++ byte_text byte) }
 {
     if is_plain(byte) {
@@ -101,10 +100,10 @@ impl Bytes {
         ensures value { IsAsSpecified row_fault (λ bytes. bytes) result (bytes_read text.now) }
         ensures spelled { IfOk result (λ bytes. text_of bytes ≡ text.now) }
     {
-        match decode(alloc, text.as_bytes()) {
+        match decode_text(alloc, text.as_bytes()) {
             Ok(Some(bytes)) => Ok(bytes),
             Ok(None) => Err(RowFault::BadText),
-            Err(OutOfMemory) => match spelled_length(text.as_bytes()) {
+            Err(OutOfMemory) => match decoded_length(text.as_bytes()) {
                 Some(_) => Err(RowFault::OutOfMemory),
                 None => Err(RowFault::BadText),
             },
@@ -113,13 +112,13 @@ impl Bytes {
 }
 
 /// How many bytes the text stands for.
-fn spelled_length(text: &[u8]) -> Option<usize>
+fn decoded_length(text: &[u8]) -> Option<usize>
     ensures { result ≡ option_map length (bytes_of text.now) }
 {
     let mut length = 0usize;
     let mut rest = text;
     while !rest.is_empty() {
-        let (_byte, behind) = next_byte(rest)?;
+        let (_byte, behind) = decode_first_byte(rest)?;
         length += 1;
         rest = behind;
     }
@@ -127,18 +126,18 @@ fn spelled_length(text: &[u8]) -> Option<usize>
 }
 
 /// The bytes that the text stands for, decoded in one pass.
-fn decode(alloc: Global, text: &[u8]) -> Result<Option<Bytes>, OutOfMemory>
+fn decode_text(alloc: Global, text: &[u8]) -> Result<Option<Bytes>, OutOfMemory>
     ensures { IfOk result (λ found. found ≡ bytes_of text.now) }
 {
-    let mut bytes = Bytes::with_capacity(alloc, room_for(text))?;
+    let mut bytes = Bytes::with_capacity(alloc, room_to_decode(text))?;
     let mut rest = text;
     while !rest.is_empty() {
-        let (plain, behind) = rest.split_at(plain_length(rest));
+        let (plain, behind) = rest.split_at(plain_front_length(rest));
         bytes.extend_from_slice(plain)?;
         if behind.is_empty() {
             return Ok(Some(bytes));
         }
-        let Some((byte, after)) = next_byte(behind) else {
+        let Some((byte, after)) = decode_first_byte(behind) else {
             return Ok(None);
         };
         bytes.push(byte)?;
@@ -149,7 +148,7 @@ fn decode(alloc: Global, text: &[u8]) -> Result<Option<Bytes>, OutOfMemory>
 
 /// How much room to make for the bytes of the text. It is exact for a long text that stands for bytes, so
 /// that up to 24 bytes take no block of memory; no contract rests on it.
-fn room_for(text: &[u8]) -> usize {
+fn room_to_decode(text: &[u8]) -> usize {
     if text.len() <= SHORT_LENGTH {
         text.len()
     } else {
@@ -161,13 +160,13 @@ fn room_for(text: &[u8]) -> usize {
 fn expected_length(text: &[u8]) -> usize {
     let mut length = text.len();
     for part in text.chunks(PART) {
-        length = length.saturating_sub(3 * usize::from(escapes_in(part)));
+        length = length.saturating_sub(3 * usize::from(count_backslashes(part)));
     }
     length
 }
 
 /// How many backslashes there are, of up to 255 characters.
-fn escapes_in(part: &[u8]) -> u8 {
+fn count_backslashes(part: &[u8]) -> u8 {
     let mut escapes = 0u8;
     for character in part {
         if *character == b'\\' {
@@ -180,14 +179,14 @@ fn escapes_in(part: &[u8]) -> u8 {
 /// The first byte that the text stands for, and the rest of the text. Every byte of a script goes
 /// through here, so it is not called.
 #[inline(always)]
-fn next_byte(text: &[u8]) -> Option<(u8, &[u8])>
+fn decode_first_byte(text: &[u8]) -> Option<(u8, &[u8])>
     ensures value { option_map (λ next. (next.0, next.1.now)) result ≡ first_of text.now }
     ensures shorter { IfSome result (λ next. length next.1.now + 1 ≤ length text.now) }
 {
     match text {
         [byte, rest @ ..] if is_plain(*byte) => Some((*byte, rest)),
         [slash, x, high, low, rest @ ..] if is_escape(*slash, *x, *high, *low) => {
-            Some((byte_of(*high, *low), rest))
+            Some((byte_of_hex_digits(*high, *low), rest))
         }
         _ => None,
     }
@@ -196,26 +195,30 @@ fn next_byte(text: &[u8]) -> Option<(u8, &[u8])>
 fn is_escape(slash: u8, x: u8, high: u8, low: u8) -> bool
     ensures value { result ≡ is_escape slash x high low }
 {
-    slash == b'\\' && x == b'x' && is_digit(high) && is_digit(low) && !is_plain(byte_of(high, low))
+    slash == b'\\'
+        && x == b'x'
+        && is_lower_hex_digit(high)
+        && is_lower_hex_digit(low)
+        && !is_plain(byte_of_hex_digits(high, low))
 }
 
-fn is_digit(character: u8) -> bool
-    ensures { result ≡ is_digit character }
+fn is_lower_hex_digit(character: u8) -> bool
+    ensures { result ≡ is_lower_hex_digit character }
 {
     matches!(character, b'0'..=b'9' | b'a'..=b'f')
 }
 
-fn byte_of(high: u8, low: u8) -> u8
-    requires high { IsTrue (is_digit high) }
-    requires low { IsTrue (is_digit low) }
-    ensures { result ≡ byte_of high low }
+fn byte_of_hex_digits(high: u8, low: u8) -> u8
+    requires high { IsTrue (is_lower_hex_digit high) }
+    requires low { IsTrue (is_lower_hex_digit low) }
+    ensures { result ≡ byte_of_hex_digits high low }
 {
-    16 * digit_of(high) + digit_of(low)
+    16 * value_of_hex_digit(high) + value_of_hex_digit(low)
 }
 
-fn digit_of(character: u8) -> u8
-    requires { IsTrue (is_digit character) }
-    ensures value { result ≡ digit_of character }
+fn value_of_hex_digit(character: u8) -> u8
+    requires { IsTrue (is_lower_hex_digit character) }
+    ensures value { result ≡ value_of_hex_digit character }
     ensures digit { result < 16 }
 {
     match character {

@@ -1,4 +1,4 @@
-//! Ranges of keys.
+//! Ranges of keys from their ends, checked or as a client gives them.
 
 use crate::lists::{bytes, list, room};
 use mutation::GivenRange;

@@ -20,8 +20,8 @@ pub use key_ranges::{Ends, given_range, given_ranges, range, ranges};
 pub use lists::{bytes, list, none, one, repeat_byte, room};
 pub use random::Random;
 pub use replies::{
-    ReplyLine, StateLine, UnseenLine, UnseenRowLine, content_if, content_of_line, journal_row,
-    reply, reply_by, unseen_rows,
+    ReplyLine, StateLine, UnseenLine, UnseenRowLine, content_if_wanted, content_of_line,
+    journal_row, reply, reply_with_content, unseen_rows,
 };
 pub use shares::{PartLine, part, parts};
 pub use texts::{are_shown_as, join_texts, text_room};

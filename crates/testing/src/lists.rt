@@ -1,4 +1,4 @@
-//! Lists and byte strings.
+//! Lists and byte strings from slices, and room for them.
 
 ghost use Rattle.std.specs.Prelude.{◌≡◌, [], IfOk};
 

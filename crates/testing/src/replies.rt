@@ -5,7 +5,7 @@ use crate::transactions::{Content, changes};
 use model::{Carried, JournalRow, Reply, StateTxn, UnseenRow, UnseenState, Verdict};
 use std::alloc::Global;
 use std::test::Fail;
-use system_keys::Items;
+use system_keys::{Items, SharedItems};
 
 /// A state transaction of an unseen row: the resolver's verdict, and the content.
 pub type UnseenLine<'a> = (Verdict, Content<'a>);
@@ -36,7 +36,7 @@ pub struct ReplyLine<'a> {
 /// The content of a state transaction.
 pub fn content_of_line(alloc: Global, content: Content<'_>) -> Result<Carried, Fail> {
     let (lines, lock_aware) = content;
-    let mutations = changes(alloc, lines)?;
+    let mutations = SharedItems::new(alloc, changes(alloc, lines)?)?;
     Ok(Carried {
         mutations,
         lock_aware,
@@ -44,7 +44,7 @@ pub fn content_of_line(alloc: Global, content: Content<'_>) -> Result<Carried, F
 }
 
 /// The content, if it is wanted.
-pub fn content_if(
+pub fn content_if_wanted(
     alloc: Global,
     is_wanted: bool,
     content: Content<'_>,
@@ -58,7 +58,7 @@ pub fn content_if(
 
 fn unseen_state(alloc: Global, carries: bool, told: UnseenLine<'_>) -> Result<UnseenState, Fail> {
     let (verdict, content) = told;
-    let carried = content_if(alloc, carries, content)?;
+    let carried = content_if_wanted(alloc, carries, content)?;
     Ok(UnseenState { verdict, carried })
 }
 
@@ -86,8 +86,12 @@ pub fn unseen_rows(
 }
 
 /// The reply, with the content of each state transaction or with none.
-pub fn reply_by(alloc: Global, carries: bool, line: ReplyLine<'_>) -> Result<Reply, Fail> {
-    let unseen = unseen_rows(alloc, carries, line.unseen)?;
+pub fn reply_with_content(
+    alloc: Global,
+    carries: bool,
+    line: ReplyLine<'_>,
+) -> Result<Reply, Fail> {
+    let unseen = SharedItems::new(alloc, unseen_rows(alloc, carries, line.unseen)?)?;
     let verdicts = Items::from(list(alloc, line.verdicts)?);
     Ok(Reply {
         resolver: line.resolver,
@@ -101,12 +105,12 @@ pub fn reply_by(alloc: Global, carries: bool, line: ReplyLine<'_>) -> Result<Rep
 
 /// The reply, in which resolver 0 alone has the content of state transactions.
 pub fn reply(alloc: Global, line: ReplyLine<'_>) -> Result<Reply, Fail> {
-    reply_by(alloc, line.resolver == 0, line)
+    reply_with_content(alloc, line.resolver == 0, line)
 }
 
 fn state(alloc: Global, joined: StateLine<'_>) -> Result<StateTxn, Fail> {
     let (verdicts, (lines, lock_aware)) = joined;
-    let mutations = changes(alloc, lines)?;
+    let mutations = SharedItems::new(alloc, changes(alloc, lines)?)?;
     let verdicts = Items::from(list(alloc, verdicts)?);
     Ok(StateTxn {
         mutations,

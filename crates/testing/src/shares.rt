@@ -1,4 +1,4 @@
-//! Parts of shares.
+//! Parts of shares from plain data.
 
 use crate::key_ranges::{Ends, ranges};
 use crate::lists::room;

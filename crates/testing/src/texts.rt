@@ -1,4 +1,4 @@
-//! Texts.
+//! Joined texts, and whether values are shown as given texts.
 
 use std::alloc::{AllocError, Global};
 use std::fmt::Display;

@@ -160,7 +160,7 @@ pub fn plain_batch(alloc: Global, lines: &[PartLine<'_>]) -> Result<Batch, Fail>
 }
 
 /// The transaction of this content, without ranges, at snapshot 0.
-fn of_content(alloc: Global, content: Content<'_>) -> Result<Transaction, AllocError> {
+fn content_transaction(alloc: Global, content: Content<'_>) -> Result<Transaction, AllocError> {
     let (lines, lock_aware) = content;
     Ok(Transaction {
         snapshot: 0,
@@ -175,7 +175,7 @@ fn of_content(alloc: Global, content: Content<'_>) -> Result<Transaction, AllocE
 pub fn content_batch(alloc: Global, contents: &[Content<'_>]) -> Result<Batch, Fail> {
     let mut list = room(alloc, contents.len())?;
     for content in contents {
-        list.push(admit(alloc, &of_content(alloc, *content)?)?)?;
+        list.push(admit(alloc, &content_transaction(alloc, *content)?)?)?;
     }
     batch_of(list)
 }

@@ -1,4 +1,4 @@
-//! The parts of a cluster behind locks.
+//! A ledger, resolvers and proxies behind locks, as tests start from.
 
 use agreed_ledger::{BlankLedger, Ledger, Naming, Sequencer};
 use locked_cluster::{AllResolvers, Refusal, SharedProxy, SharedResolver};

@@ -4,6 +4,7 @@
 //! if an allocation for its own data fails. Limits, first faults and printed refusals are shown by the scripts in
 //! `tests/scripts`; the built program meets failing devices in `tests/memory`.
 
+mod copies;
 mod devices;
 mod of_fold_run;
 mod of_model;
@@ -38,14 +39,15 @@ fn assert_alike<T: Debug>(rt: &(impl Abort + AllocGlobal), made: &T, expected: &
     assert_eq!(rt; made, expected);
 }
 
+/// A type whose values are copied by a call that allocates. A function that is passed by its name would be
+/// proved three times more in this crate, as each of the closures that it can stand for.
+trait Copied: Drop {
+    /// The copy, by one call.
+    fn copied(&self) -> Result<Self, OutOfMemory>;
+}
+
 /// A copy of the value, made again after a failed allocation, is equal to it.
-fn assert_copied<T: Debug + Drop, F: Fn(&T) -> Result<T, OutOfMemory>>(
-    rt: &(impl Abort + AllocGlobal),
-    value: &T,
-    copy: F,
-)
-    requires { F.IsAlwaysCallable copy }
-{
-    let copied = twice!(rt.alloc(); copy(value), OutOfMemory).expect(rt, "a copy");
+fn assert_copied<T: Copied + Debug>(rt: &(impl Abort + AllocGlobal), value: &T) {
+    let copied = twice!(rt.alloc(); value.copied(), OutOfMemory).expect(rt, "a copy");
     assert_alike(rt, &copied, value);
 }

@@ -1,10 +1,11 @@
 //! Tests of what no clause says and no script shows: that right turns and threads scripts are read by
-//! their tokens alone. A copy of a script or of its moves has the same values in all fields. A call that
-//! failed with `OutOfMemory` is made once more. Texts of whole scripts, right and wrong ones, and the
-//! words of the command line stand in `tests/scripts`; the built program meets failing devices in
-//! `tests/memory`.
+//! their tokens alone; and what a session writes before which read. A copy of a script or of its moves has
+//! the same values in all fields. A call that failed with `OutOfMemory` is made once more. Texts of whole
+//! scripts, right and wrong ones, and the words of the command line stand in `tests/scripts`; the built
+//! program meets failing devices in `tests/memory`.
 
 mod of_cluster_scripts;
+pub(crate) mod of_sessions;
 mod of_threads_scripts;
 mod of_turns_run;
 

@@ -64,7 +64,7 @@ fn has_lines(text: &[u8], lines: &[u8]) -> bool {
 
 impl Expected {
     /// Whether a text is as expected.
-    fn is_met(self, text: &[u8]) -> bool {
+    fn is_as_expected(self, text: &[u8]) -> bool {
         match self {
             Expected::Whole(whole) => text == whole,
             Expected::Lines(lines) => has_lines(text, lines),
@@ -103,7 +103,7 @@ fn assert_worked<R: Abort + AllocGlobal + Threads + Wait + Sync>(
             "the status of {name} by {words:?}"
         );
         assert!(rt;
-            worked.expected.is_met(text.as_slice()),
+            worked.expected.is_as_expected(text.as_slice()),
             "the text of {name} by {words:?}"
         );
     }

@@ -21,7 +21,7 @@ use std::alloc::{AllocError, Global};
 use std::fmt::Debug;
 use std::test::Fail;
 use system_keys::{Items, OutOfMemory};
-use testing::{Content, PartLine, content_if, parts, room, twice};
+use testing::{Content, PartLine, content_if_wanted, parts, room, twice};
 
 /// Whether the two are printed as one text, with all that they hold.
 pub(crate) fn are_alike<T: Debug>(alloc: Global, one: &T, other: &T) -> Result<bool, AllocError> {
@@ -59,7 +59,7 @@ pub(crate) fn marks(
 ) -> Result<Items<StateMark>, Fail> {
     let mut marks = room(alloc, numbers.len())?;
     for number in numbers {
-        let (number, carried) = (*number, content_if(alloc, has_content, content)?);
+        let (number, carried) = (*number, content_if_wanted(alloc, has_content, content)?);
         marks.push(StateMark { number, carried })?;
     }
     Ok(Items::from(marks))

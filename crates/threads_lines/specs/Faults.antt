@@ -19,9 +19,9 @@ graver faults.OutOfMemory other = faults.OutOfMemory
 graver faults.Refused other = other
 
 -- the fault of a run: its proxies' fault, but `OutOfMemory` if a worker was refused memory
-abbrev pub fault_beside : RunFault → (refused_memory : Bool) → RunFault
-fault_beside fault true = faults.OutOfMemory
-fault_beside fault false = fault
+abbrev pub fault_with_workers : RunFault → (refused_memory : Bool) → RunFault
+fault_with_workers fault true = faults.OutOfMemory
+fault_with_workers fault false = fault
 
 -- `Ok` if both are, and otherwise the graver fault
 abbrev pub join_results : Result ⊤ RunFault → Result ⊤ RunFault → Result ⊤ RunFault

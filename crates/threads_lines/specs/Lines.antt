@@ -4,9 +4,8 @@ use Rattle.std.specs.Prelude.{ℕ, List, [], ◌++◌, map, codes, Result, Ok, E
 use Rattle.std.specs.Fmt.{decimal}
 use Rattle.model.specs.Numbers.{ProxyNumber, Version}
 use Rattle.model.specs.declared.outcome.Finished.{Finished}
-use Rattle.scripts.specs.Lines.{line, list_text, spaced}
-use Rattle.cluster_lines.specs.Names.{outcome_name}
-use Rattle.cluster_lines.specs.Refusals.{refused_text}
+use Rattle.scripts.specs.Lines.{line, list_text, refused_text, spaced}
+use Rattle.scripts.specs.Names.{outcome_name}
 use Rattle.agreed_ledger.specs.Refusals.{refusal_name, refusal_number}
 use Rattle.agreed_ledger.specs.declared.refusal.Refusal.{Refusal}
 use Rattle.agreed_ledger.specs.declared.refusal.Refusal.TheVariants as refusals

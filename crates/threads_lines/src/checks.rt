@@ -1,9 +1,8 @@
 //! What must hold of the whole history of a run, once all batches are answered and the proxies and the
 //! resolvers are locked. No run is known to find otherwise; one that does fails.
 
-ghost use Rattle.std.specs.Prelude.{◌≡◌, ◌≢◌, ◌-◌, ◌≤◌, length, map, Some, All, MatchBool};
+ghost use Rattle.std.specs.Prelude.{◌≡◌, ◌≢◌, ◌-◌, length, map, Some, All, MatchBool};
 ghost use Rattle.std.specs.Prelude.{IfErr, OnOk};
-ghost use Rattle.facts.specs.Stretches.{rows_limit};
 ghost use Rattle.model.specs.Records.{last_version, records_of_proxy};
 ghost use Rattle.threads_lines.specs.Faults.{FailsCheckOf};
 ghost use Rattle.threads_lines.specs.Histories.{HasFinishedAll, HasJudgedAll};
@@ -108,42 +107,13 @@ fn last_version_of<N: Naming>(
         let Some(rec) = records.get(ledger, row) else {
             unreachable!();
         };
-        version = version_after(rec, proxy, version);
+        version = version_if_own(rec, proxy, version);
     }
     version
 }
 
-/// How many records of the history are of the proxy.
-pub fn count_records_of<N: Naming>(
-    history: &RunHistory<N>,
-    ledger: &Ledger<N>,
-    proxy: ProxyNumber,
-) -> usize
-    ensures value { result ≡ length (records_of_proxy proxy history.now.records) }
-    ensures limit { result ≤ rows_limit }
-{
-    let records = history.records();
-    let mut count = 0;
-    for row in 0..records.end() {
-        let Some(rec) = records.get(ledger, row) else {
-            unreachable!();
-        };
-        count += one_if_own(rec, proxy);
-    }
-    count
-}
-
-/// 1 if the record is one of the proxy, and otherwise 0.
-fn one_if_own(rec: &Record, proxy: ProxyNumber) -> usize
-    ensures own { rec.now.proxy ≡ proxy → result ≡ 1 }
-    ensures other { (rec.now.proxy ≡ proxy → ⊥) → result ≡ 0 }
-    ensures limit { result ≤ 1 }
-{
-    if rec.proxy() == proxy { 1 } else { 0 }
-}
-
 /// The version of the record if it is one of the proxy, and otherwise that before.
-fn version_after(rec: &Record, proxy: ProxyNumber, before: Version) -> Version
+fn version_if_own(rec: &Record, proxy: ProxyNumber, before: Version) -> Version
     ensures own { rec.now.proxy ≡ proxy → result ≡ rec.now.version }
     ensures other { (rec.now.proxy ≡ proxy → ⊥) → result ≡ before }
 {
@@ -174,7 +144,7 @@ pub fn check_moves<N: Naming>(
     let Some(rec) = records.get(ledger, last) else {
         unreachable!();
     };
-    if are_dated(rec.moves(), moves) {
+    if are_dated_one(rec.moves(), moves) {
         Ok(())
     } else {
         Err(RunFault::Refused)
@@ -182,7 +152,7 @@ pub fn check_moves<N: Naming>(
 }
 
 /// Whether these are the moves, each with date 1.
-fn are_dated(moves: &Moves, undated: &[UndatedMove]) -> bool
+fn are_dated_one(moves: &Moves, undated: &[UndatedMove]) -> bool
     ensures { MatchBool result (moves.now ≡ map (dated 1) undated.now)
         (moves.now ≢ map (dated 1) undated.now) }
 {
@@ -193,7 +163,7 @@ fn are_dated(moves: &Moves, undated: &[UndatedMove]) -> bool
         let Some(one) = moves.get(place) else {
             return false;
         };
-        let same = is_dated(one, &undated[place]);
+        let same = is_dated_one(one, &undated[place]);
         if !same {
             return false;
         }
@@ -202,14 +172,14 @@ fn are_dated(moves: &Moves, undated: &[UndatedMove]) -> bool
 }
 
 /// Whether this is the move, with date 1.
-fn is_dated(one: &Move, undated: &UndatedMove) -> bool
+fn is_dated_one(one: &Move, undated: &UndatedMove) -> bool
     ensures { MatchBool result (one.now ≡ dated 1 undated.now) (one.now ≢ dated 1 undated.now) }
 {
-    one.date == 1 && one.dest == undated.dest && are_same(&one.range, &undated.range)
+    one.date == 1 && one.dest == undated.dest && are_same_ranges(&one.range, &undated.range)
 }
 
 /// Whether the ranges begin and end alike.
-fn are_same(range: &KeyRange, other: &KeyRange) -> bool
+fn are_same_ranges(range: &KeyRange, other: &KeyRange) -> bool
     ensures { MatchBool result (range.now ≡ other.now) (range.now ≢ other.now) }
 {
     range.begin() == other.begin() && range.end() == other.end()

@@ -1,14 +1,13 @@
-//! The cluster of a run: the sequencer, the resolvers and the proxies of one ledger.
+//! The cluster of a run: its sequencer, resolvers and proxies, and locking or moving all of them.
 
-ghost use Rattle.std.specs.Prelude.{◌≡◌, ◌<◌, length, IfOk, IfErr};
+ghost use Rattle.std.specs.Prelude.{◌≡◌, ◌<◌, [], ◌∷◌, length, IfOk, IfErr, OnErr, OnOk};
 ghost use Rattle.threads_lines.specs.Guards.{AreLockedProxies, AreLockedResolvers};
-ghost use Rattle.threads_lines.specs.Moves.{IsFaultOfSome};
+ghost use Rattle.threads_lines.specs.Guards.{AreProxiesKept, AreResolversKept};
+ghost use Rattle.threads_lines.specs.Moves.{HaveMoved, IsFaultOfMove, IsFaultOfSome, StopsMoving};
 ghost use Rattle.threads_lines.specs.Threads.{AreInPlace};
 
-use crate::faults::RunFault;
-use crate::guards::{lock_proxies, lock_resolvers};
-use crate::moves::move_all;
-use agreed_ledger::{Ledger, Naming, Sequencer};
+use crate::faults::{RunFault, ledger_fault};
+use agreed_ledger::{Ledger, Naming, Sequencer, SequencerGuard};
 use locked_cluster::{ProxyGuard, Refusal, ResolverGuard, SharedProxy, SharedResolver};
 use model::ProxyNumber;
 use std::alloc::Global;
@@ -70,7 +69,7 @@ impl<'l, N: Naming> RunCluster<'l, N> {
     ) -> Result<Vec<ProxyGuard<'_, N>>, OutOfMemory>
         ensures { IfOk result (λ guards. AreLockedProxies N.cells.config guards.items) }
     {
-        lock_proxies(rt, alloc, self.proxies.as_slice())
+        lock_each_proxy(rt, alloc, self.proxies.as_slice())
     }
 
     /// Locks all resolvers, in order. Fails only with `OutOfMemory`.
@@ -81,7 +80,7 @@ impl<'l, N: Naming> RunCluster<'l, N> {
     ) -> Result<Vec<ResolverGuard<'_, N>>, OutOfMemory>
         ensures { IfOk result (λ guards. AreLockedResolvers N.cells.config guards.items) }
     {
-        lock_resolvers(rt, alloc, self.resolvers.as_slice())
+        lock_each_resolver(rt, alloc, self.resolvers.as_slice())
     }
 }
 
@@ -136,4 +135,67 @@ fn shared_proxies<'l, N: Naming>(
         proxies.push(proxy)?;
     }
     Ok(proxies)
+}
+
+/// Locks all proxies, in order. Fails only with `OutOfMemory`.
+fn lock_each_proxy<'a, N: Naming, R: Wait>(
+    rt: &R,
+    alloc: Global,
+    proxies: &'a [SharedProxy<'_, N>],
+) -> Result<Vec<ProxyGuard<'a, N>>, OutOfMemory>
+    ensures count { IfOk result (λ guards. length guards.items ≡ length proxies.now) }
+    ensures kept { IfOk result (λ guards.
+        AreProxiesKept N.cells.config proxies.now guards.items) }
+{
+    let mut guards = Vec::with_capacity(alloc, proxies.len())?;
+    for proxy in proxies {
+        guards.push(proxy.lock(rt))?;
+    }
+    Ok(guards)
+}
+
+/// Locks all resolvers, in order. Fails only with `OutOfMemory`.
+fn lock_each_resolver<'a, N: Naming, R: Wait>(
+    rt: &R,
+    alloc: Global,
+    resolvers: &'a [SharedResolver<'_, N>],
+) -> Result<Vec<ResolverGuard<'a, N>>, OutOfMemory>
+    ensures count { IfOk result (λ guards. length guards.items ≡ length resolvers.now) }
+    ensures kept { IfOk result (λ guards.
+        AreResolversKept N.cells.config resolvers.now guards.items) }
+{
+    let mut guards = Vec::with_capacity(alloc, resolvers.len())?;
+    for resolver in resolvers {
+        guards.push(resolver.lock(rt))?;
+    }
+    Ok(guards)
+}
+
+/// Carries out the moves, in order. Fails as the first move does that fails: those before it are then
+/// carried out, and no other.
+fn move_all<N: Naming>(
+    guard: &mut SequencerGuard<'_, N>,
+    moves: &[UndatedMove],
+) -> Result<(), RunFault>
+    ensures moved { OnOk result (HaveMoved guard.old moves.now guard.new) }
+    ensures stopped { IfErr result (StopsMoving N.cells.config guard.old moves.now guard.new) }
+{
+    for one in moves {
+        if let Err(fault) = move_one(guard, one) {
+            return Err(fault);
+        }
+    }
+    Ok(())
+}
+
+/// Carries out a move. If it fails, nothing has changed.
+fn move_one<N: Naming>(guard: &mut SequencerGuard<'_, N>, one: &UndatedMove) -> Result<(), RunFault>
+    ensures moved { OnOk result (HaveMoved guard.old (one.now ∷ []) guard.new) }
+    ensures failed { IfErr result (IsFaultOfMove N.cells.config one.now) }
+    ensures unchanged { OnErr result (guard.new ≡ guard.old) }
+{
+    match guard.move_range(&one.range, one.dest) {
+        Ok(_date) => Ok(()),
+        Err(refusal) => Err(ledger_fault(refusal)),
+    }
 }

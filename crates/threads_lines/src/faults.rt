@@ -1,4 +1,4 @@
-//! Why a run has no text, and which refusals of a commit are printed.
+//! Why a run has no text, its status, and which refusals of a commit are printed.
 
 ghost use Rattle.std.specs.Prelude.{◌≡◌};
 ghost use Rattle.threads_lines.specs.Faults.{commit_fault, cluster_fault, ledger_fault, printed_refusal};
@@ -22,7 +22,7 @@ pub enum RunFault {
 }
 
 impl RunFault {
-    ghost use Rattle.threads_lines.specs.Faults.{fault_beside, fault_status, graver};
+    ghost use Rattle.threads_lines.specs.Faults.{fault_with_workers, fault_status, graver};
 
     /// How the run ends: with 4 for `OutOfMemory`, and with 5 for `Refused`.
     pub fn status(self) -> RunStatus
@@ -46,8 +46,8 @@ impl RunFault {
 
     /// The fault of a run whose proxies failed with this one: `OutOfMemory` if a worker was refused
     /// memory, of which a proxy may have seen only that a resolver was closed.
-    pub fn fault_beside(self, refused_memory: bool) -> RunFault
-        ensures { result ≡ fault_beside self refused_memory }
+    pub fn fault_with_workers(self, refused_memory: bool) -> RunFault
+        ensures { result ≡ fault_with_workers self refused_memory }
     {
         if refused_memory {
             RunFault::OutOfMemory
@@ -65,9 +65,10 @@ impl From<OutOfMemory> for RunFault {
     }
 }
 
-/// How a run ends in which a commit has this fault, whatever its phase: with `OutOfMemory` if an
-/// allocation failed, and otherwise with `ClusterRefused`. The refusals of a full ledger and of the
-/// end of the versions are printed, and not passed to this function (this project's profile).
+/// The status of a run in which a commit failed with this fault, in any phase: with `OutOfMemory`
+/// if an allocation failed, and otherwise with `ClusterRefused`. The refusals of a full ledger
+/// and of the end of the versions are printed, and not passed to this function (this project's
+/// profile).
 pub fn status_of<N: Naming>(fault: &CommitFault<N>) -> RunStatus
     ensures { result ≡ status_of fault.now }
 {
@@ -86,7 +87,7 @@ fn commit_fault<N: Naming>(fault: &CommitFault<N>) -> RunFault
     }
 }
 
-/// How a run fails that the sequencer refused so.
+/// The fault of a run in which the sequencer refused a call with this refusal.
 pub(crate) fn ledger_fault(refusal: LedgerRefusal) -> RunFault
     ensures { result ≡ ledger_fault refusal }
 {
@@ -96,7 +97,7 @@ pub(crate) fn ledger_fault(refusal: LedgerRefusal) -> RunFault
     }
 }
 
-/// How a run fails that a proxy or a resolver refused so.
+/// The fault of a run in which a proxy or a resolver refused a call with this refusal.
 pub(crate) fn cluster_fault(refusal: Refusal) -> RunFault
     ensures { result ≡ cluster_fault refusal }
 {

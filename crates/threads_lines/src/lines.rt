@@ -1,14 +1,12 @@
-//! The lines of batches and closings, finished and refused.
+//! The lines of a batch and of a closing: version and outcomes, or the refusal.
 
-ghost use Rattle.std.specs.Prelude.{◌≡◌, ◌++◌, OnOk, Ok, Err, string_bytes, map, flat_map};
-ghost use Rattle.scripts.specs.Lines.{list_text, spaced};
-ghost use Rattle.cluster_lines.specs.Names.{outcome_name};
+ghost use Rattle.std.specs.Prelude.{◌≡◌, ◌++◌, OnOk, Ok, Err, string_bytes};
 ghost use Rattle.threads_lines.specs.Lines.{batch_line, batch_text, closing_line, closing_text};
 ghost use Rattle.threads_lines.specs.Lines.{refusal_text, refusal_value, version_text};
 
 use agreed_ledger::Refusal;
-use cluster_lines::{outcome_name, push_number_and_name};
-use model::{Finished, Outcome, ProxyNumber, Version};
+use model::{Finished, ProxyNumber, Version};
+use scripts::{print_list, print_refused};
 use std::fmt::Write;
 use system_keys::OutOfMemory;
 
@@ -24,7 +22,7 @@ pub(crate) fn print_finished_batch(
         ≡ string_bytes text.old ++ batch_line proxy place (Ok finished.now)) }
 {
     push_batch(text, proxy, place)?;
-    push_outcomes(text, finished.outcomes.as_slice())?;
+    print_list(text, finished.outcomes.as_slice())?;
     text.push_str("\n")?;
     Ok(())
 }
@@ -100,42 +98,13 @@ fn push_version(text: &mut String, version: Version) -> Result<(), OutOfMemory>
     Ok(())
 }
 
-/// Appends the outcomes of a batch, or `none`.
-fn push_outcomes(text: &mut String, outcomes: &[Outcome]) -> Result<(), OutOfMemory>
-    ensures { OnOk result (string_bytes text.new
-        ≡ string_bytes text.old ++ list_text (map outcome_name outcomes.now)) }
-{
-    match outcomes.split_first() {
-        Some((first, rest)) => {
-            text.push_str(outcome_name(*first))?;
-            push_spaced_outcomes(text, rest)
-        }
-        None => {
-            text.push_str("none")?;
-            Ok(())
-        }
-    }
-}
-
-/// Appends each outcome after a space.
-fn push_spaced_outcomes(text: &mut String, outcomes: &[Outcome]) -> Result<(), OutOfMemory>
-    ensures { OnOk result (string_bytes text.new
-        ≡ string_bytes text.old ++ flat_map spaced (map outcome_name outcomes.now)) }
-{
-    for outcome in outcomes {
-        text.push_str(" ")?;
-        text.push_str(outcome_name(*outcome))?;
-    }
-    Ok(())
-}
-
 // Fails also for the refusal `OutOfMemory`, which has no number.
 fn push_ledger_refusal(text: &mut String, refusal: &Refusal) -> Result<(), OutOfMemory>
     ensures { OnOk result (string_bytes text.new
         ≡ string_bytes text.old ++ refusal_text refusal.now) }
 {
     let number = refusal.number().ok_or(OutOfMemory)?;
-    push_number_and_name(text, number, refusal.name())?;
+    print_refused(text, number, refusal.name())?;
     push_refusal_value(text, refusal)
 }
 

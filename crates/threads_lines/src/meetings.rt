@@ -1,4 +1,4 @@
-//! Each two proxies of a cluster meet, and each proxy is audited.
+//! The lines of how each two proxies meet, and of each proxy's audit.
 
 ghost use Rattle.std.specs.Prelude.{◌≡◌, ◌<◌, ◌-◌, ◌+◌, ◌++◌, length, OnOk, string_bytes};
 ghost use Rattle.threads_lines.specs.Meetings.{AreAuditsOf, AreMeetingLines, AreMeetingsOf};

@@ -1,5 +1,5 @@
-//! The threads of a run, one for each proxy: what each commits (a trait), how they are started and
-//! joined, and their lines in order.
+//! The threads of a run's proxies: what they share (a trait), starting and joining them, and
+//! their lines in order.
 
 ghost use Rattle.std.specs.Prelude.{◌≡◌, ◌++◌, ◌≤◌, ◌<◌, [], length, ℕ, IfOk, OnOk};
 ghost use Rattle.std.specs.Prelude.{Err, MatchResult, string_bytes};
@@ -25,7 +25,8 @@ use std::thread;
 use std::thread::{Promise, PromisedHandle, Scope, Threads};
 use system_keys::{Items, OutOfMemory};
 
-/// What the threads of a run share: each commits the batches of one proxy by it.
+/// A value that the threads of a run share, with which each thread commits the batches of one
+/// proxy.
 pub trait CommitsBatches<N: Naming> {
     ghost proxies: { Self → ℕ };
 
@@ -61,7 +62,7 @@ pub trait CommitsBatches<N: Naming> {
     fn close<R: Wait>(&self, rt: &R);
 }
 
-/// What the threads of a run share, and what is left of the proxies once they have ended: a `D`.
+/// How such a value ends its proxies, and what these leave: a `D`.
 pub trait EndsProxies<D> {
     ghost ends_with: { Self → D → Type 0 };
 

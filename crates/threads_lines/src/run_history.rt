@@ -2,8 +2,9 @@
 //! show.
 
 ghost use Rattle.std.specs.Prelude.{◌≡◌, ◌+◌, ◌<◌, ◌≤◌, length, IfErr, OnOk};
+ghost use Rattle.facts.specs.Stretches.{rows_limit};
 ghost use Rattle.model.specs.Configs.{version_limit};
-ghost use Rattle.model.specs.Records.{IsHistory, last_version};
+ghost use Rattle.model.specs.Records.{IsHistory, last_version, records_of_proxy};
 ghost use Rattle.threads_lines.specs.Answers.{AreVersionsEnded, IsEndAfter, IsFull, SeesEnd};
 ghost use Rattle.threads_lines.specs.Faults.{FailsCheckOf};
 ghost use Rattle.threads_lines.specs.Histories.{AreOfProxies, AreOfResolvers, IsStartOf};
@@ -12,7 +13,8 @@ ghost use Rattle.threads_lines.specs.Histories.{Joins, SeesFinished, nothing_kno
 use crate::faults::RunFault;
 use agreed_ledger::{Ledger, Naming, Records, Refusal, SequencerGuard};
 use locked_cluster::{NotedFinished, ProxyGuard, ResolverGuard};
-use model::{VERSION_LIMIT, Version};
+use model::{ProxyNumber, VERSION_LIMIT, Version};
+use request_builder::Record;
 use std::alloc::Global;
 use std::marker::Model;
 use system_keys::OutOfMemory;
@@ -108,7 +110,7 @@ impl<N: Naming> RunHistory<N> {
         self.check_end(ledger, refusal)
     }
 
-    /// Knows what another one knew too: its records, and the batches that it saw finished. Fails only
+    /// Learns the records of another history, and adds its count of finished batches. Fails only
     /// with `OutOfMemory`.
     pub(crate) fn join(&mut self, other: &RunHistory<N>) -> Result<(), OutOfMemory>
         ensures kept { IsStartOf self.old.records self.new.records }
@@ -221,4 +223,33 @@ fn greatest_previous<N: Naming>(ledger: &Ledger<N>) -> Version
 {
     let step = ledger.config().step();
     VERSION_LIMIT - 1 - step
+}
+
+/// How many records of the history are of the proxy.
+pub fn count_records_of<N: Naming>(
+    history: &RunHistory<N>,
+    ledger: &Ledger<N>,
+    proxy: ProxyNumber,
+) -> usize
+    ensures value { result ≡ length (records_of_proxy proxy history.now.records) }
+    ensures limit { result ≤ rows_limit }
+{
+    let records = history.records();
+    let mut count = 0;
+    for row in 0..records.end() {
+        let Some(rec) = records.get(ledger, row) else {
+            unreachable!();
+        };
+        count += count_if_own(rec, proxy);
+    }
+    count
+}
+
+/// 1 if the record is one of the proxy, and otherwise 0.
+fn count_if_own(rec: &Record, proxy: ProxyNumber) -> usize
+    ensures own { rec.now.proxy ≡ proxy → result ≡ 1 }
+    ensures other { (rec.now.proxy ≡ proxy → ⊥) → result ≡ 0 }
+    ensures limit { result ≤ 1 }
+{
+    if rec.proxy() == proxy { 1 } else { 0 }
 }

@@ -1,5 +1,5 @@
-//! The threads that serve the proxies, one for each end that requests come from, while those of the
-//! proxies run. In a run each end is a worker's end of an inbox, and a worker serves it.
+//! The threads of a run's workers beside those of its proxies: starting them, waiting for them,
+//! joining them. In a run each end is a worker's end of an inbox, and a worker serves it.
 
 ghost use Rattle.std.specs.Prelude.{◌≡◌, ◌≤◌, [], length, All, IfOk, string_bytes};
 ghost use Rattle.std.specs.Vec.{vec_capacity};

@@ -1,23 +1,26 @@
 -- What was sent through an end and what a worker took, from what is counted of them.
-use Rattle.std.proofs.Common.{◌≡◌, ◌∙◌, ◌++◌, ◌+◌, ◌-◌, ◌^◌, ◌<◌, ◌≤◌, ℕ, List, [], ◌∷◌, sym, ap, subst, length, length-append, append-nil, get_or, inl, inr, arith}
-use Rattle.std.specs.Prelude.{◌⊎◌, ⊤, All, false, slice_get, slice_set, Some, Result, Ok, Err, IfErr, OnOk}
+use Rattle.std.proofs.Common.{◌≡◌, ◌∙◌, ◌++◌, ◌+◌, ◌-◌, ◌^◌, ◌<◌, ◌≤◌, ℕ, Bool, true, cond, List, [], ◌∷◌, sym, refl, ap, subst, length, length-append, append-nil, get_or, inl, inr, arith}
+use Rattle.std.specs.Prelude.{◌⊎◌, ◌==◌, ⊤, All, false, filter, slice_get, slice_set, Some, Result, Ok, Err, IfErr, OnOk}
 use Rattle.std.proofs.Math.Nat.{min-eq_left, min-eq_right}
 use Rattle.std.proofs.lemmas.List.{nil_from_length, set-get_or}
 use Rattle.std.proofs.lemmas.Bool.{cases_order}
-use Rattle.std.proofs.lemmas.List.Elements.{All-head, All-same, All-tail}
+use Rattle.std.proofs.lemmas.List.Elements.{All-cons, All-filter, All-head, All-nil, All-same, All-tail}
 use Rattle.std.proofs.lemmas.Option.{same_Some, slice_get_within, slice_get-get_or}
 use Rattle.model.specs.Configs.{Config}
 use Rattle.model.specs.Records.{Record, records_of_proxy}
 use Rattle.locked_resolvers.proofs.Lists.{got}
+use Rattle.inboxes.specs.declared.views.MessageKind.{MessageKind}
+use Rattle.inboxes.specs.declared.views.MessageKind.TheVariants as kinds
 use Rattle.inboxes.specs.declared.views.MessageView.{MessageView}
 use Rattle.inboxes.specs.Counts.{counted}
 use Rattle.inboxes.specs.Delivers.{of_proxy}
 use Rattle.inboxes.specs.Ends.{AreSenders, IsBeginning, ProxyView, SenderView}
-use Rattle.inboxes.specs.Sending.{AreEndedSenders, HasEndLast, IsEndedSender}
-use Rattle.workers.specs.Workers.{EndedView}
+use Rattle.inboxes.specs.MessageViews.{end_view}
+use Rattle.inboxes.specs.Sending.{AreEndedSenders, HasEndLast, IsEndedSender, ends_in, is_end, is_last_kind}
+use Rattle.workers.specs.Workers.{EndedView, IsEnded}
 use Rattle.threads_lines.specs.Faults.{FailsCheckOf}
 use Rattle.threads_lines.specs.declared.faults.RunFault.{RunFault}
-use Rattle.threads_run.specs.Delivered.{IsDelivered, IsSideDelivered, IsTaken, messages_of}
+use Rattle.threads_run.specs.Delivered.{AreRequestsAndEnd, IsDelivered, IsRequest, IsSideDelivered, IsTaken, messages_of}
 
 -- a count below the greatest number is how many messages there are
 counts_all : (messages : List MessageView) (count : ℕ) → count < 2 ^ 64 - 1 → count ≡ counted messages → length messages ≡ count
@@ -39,22 +42,88 @@ counted_all messages count below is =
     let small : length messages ≤ 2 ^ 64 - 1 = omega (arith, below, is) in
     min-eq_left small ∙ is
 
+-- ---- an open worker took no Close
+
+-- the message is no Close
+abbrev IsNoClose : MessageView → Type 0
+IsNoClose message = message.kind ≡ kinds.Close → ⊥
+
+-- what is neither an End nor a Close is a request
+request_if : (message : MessageView) → is_end message ≡ false → IsNoClose message → IsRequest message
+request_if message none other = by message.kind refl
+  where
+    by : (kind : MessageKind) → message.kind ≡ kind → message.kind ≡ kinds.Request
+    by kinds.Request is = is
+    by kinds.Close is = absurd (other is)
+    by kinds.End is = let last : true ≡ false = sym (ap (λ (k : MessageKind). is_last_kind k) is) ∙ none in absurd (cc)
+
+-- as many Ends as there are, by the first message
+ends_by_first : (message : MessageView) (messages : List MessageView) (b : Bool) → is_end message ≡ b
+    → ends_in (message ∷ messages) ≡ length (cond b (message ∷ filter is_end messages) (filter is_end messages))
+ends_by_first message messages b is =
+    ap (λ (x : Bool). length (cond x (message ∷ filter is_end messages) (filter is_end messages))) is
+
+-- the first is no End where none is
+first_no_end : (message : MessageView) (messages : List MessageView) → ends_in (message ∷ messages) ≡ 0 → is_end message ≡ false
+first_no_end message messages none = by (is_end message) refl
+  where
+    by : (b : Bool) → is_end message ≡ b → is_end message ≡ false
+    by true is =
+        let count : ends_in (message ∷ messages) ≡ length (message ∷ filter is_end messages) = ends_by_first message messages true is in
+        absurd (omega (arith, none, count))
+    by false is = is
+
+-- where none is an End and none a Close, all are requests
+all_requests : (messages : List MessageView) → ends_in messages ≡ 0 → All IsNoClose messages → All IsRequest messages
+all_requests [] none all = All-nil IsRequest
+all_requests (message ∷ messages) none all =
+    let first = first_no_end message messages none in
+    let rest : ends_in messages ≡ 0 = sym (ends_by_first message messages false first) ∙ none in
+    All-cons IsRequest message messages (request_if message first (All-head IsNoClose message messages all))
+    (all_requests messages rest (All-tail IsNoClose message messages all))
+
+-- what holds of each holds of the first ones
+first_ones : {X : Type 0} (P : X → Type 0) (xs ys : List X) → All P (xs ++ ys) → All P xs
+first_ones P [] ys all = All-nil P
+first_ones P (x ∷ xs) ys all = All-cons P x xs (All-head P x (xs ++ ys) all) (first_ones P xs ys (All-tail P x (xs ++ ys) all))
+
+-- by its type a worker that took a Close was closed
+no_close_taken : (proxies : ℕ) (worker : EndedView) → IsEnded proxies worker → worker.closed ≡ false → All IsNoClose worker.taken.got
+no_close_taken proxies worker is not_closed k d within closes =
+    let message = get_or worker.taken.got k d in
+    let closed : worker.closed ≡ true = is.told (k, message, slice_get-get_or worker.taken.got k d within, closes) in
+    absurd (cc)
+
+-- so what it took of a proxy are requests, and the End
+requests_and_end : (proxies : ℕ) (worker : EndedView) (sender : SenderView) → IsEnded proxies worker → worker.closed ≡ false
+    → of_proxy sender.proxy worker.taken.got ≡ sender.put → HasEndLast sender.proxy sender.put → AreRequestsAndEnd sender.proxy sender.put
+requests_and_end proxies worker sender is not_closed taken (before, none, whole) =
+    let got = worker.taken.got in
+    let last = end_view sender.proxy ∷ [] in
+    let own : All IsNoClose (of_proxy sender.proxy got) =
+    All-filter (λ (m : MessageView). m.proxy == sender.proxy) IsNoClose got (no_close_taken proxies worker is not_closed) in
+    let put : All IsNoClose (before ++ last) = All-same IsNoClose (before ++ last) (of_proxy sender.proxy got) (sym whole ∙ sym taken) own in
+    (before, all_requests before none (first_ones IsNoClose before last put), whole)
+
 -- as many were taken as were sent, so all
-pub taken_all : (messages : ℕ) (worker : EndedView) (sender : SenderView) (sent taken : ℕ)
+pub taken_all : (messages proxies : ℕ) (worker : EndedView) (sender : SenderView) (sent taken : ℕ)
     → messages < 2 ^ 64 - 1 → HasEndLast sender.proxy sender.put
+    → IsEnded proxies worker → worker.closed ≡ false
     → sender.resolver ≡ worker.taken.resolver → IsBeginning worker.taken sender
     → sent ≡ counted sender.put → taken ≡ counted (of_proxy sender.proxy worker.taken.got)
     → sent ≡ messages → taken ≡ messages → IsTaken messages worker sender
-taken_all messages worker sender sent taken below last same (rest, begins) is_sent is_taken all_sent all_taken =
+taken_all messages proxies worker sender sent taken below last is not_closed same (rest, begins) is_sent is_taken all_sent all_taken =
     let got = of_proxy sender.proxy worker.taken.got in
     let put_size : length sender.put ≡ messages = counts_all sender.put messages below (sym all_sent ∙ is_sent) in
     let got_size : length got ≡ messages = counts_all got messages below (sym all_taken ∙ is_taken) in
     let both : length sender.put ≡ length got + length rest = ap (λ (ts : List MessageView). length ts) begins ∙ length-append got rest in
     let none : rest ≡ [] = nil_from_length rest (omega (arith, put_size, got_size, both)) in
+    let all : got ≡ sender.put = sym (append-nil got) ∙ ap (λ (ts : List MessageView). got ++ ts) (sym none) ∙ sym begins in
     record {
+      not_closed = not_closed;
       resolver = same;
-      taken = sym (append-nil got) ∙ ap (λ (ts : List MessageView). got ++ ts) (sym none) ∙ sym begins;
-      ended = last;
+      taken = all;
+      requests = requests_and_end proxies worker sender is not_closed all last;
       count = put_size;
     }
 

@@ -1,9 +1,9 @@
 -- What the text of a threads script says.
 use Rattle.std.proofs.Common.{◌≡◌, ◌∙◌, ◌++◌, ◌+◌, ◌-◌, ◌*◌, ◌<◌, ◌≤◌, ℕ, zero, suc, List, [], ◌∷◌, codes, length, length-append, append-nil, map, take, add-one, ap, subst, sym, refl, arith}
-use Rattle.std.specs.Prelude.{Ok, Err, Option, Some, option_map, false, slice_get, sum_by}
+use Rattle.std.specs.Prelude.{Ok, Err, All, Option, Some, option_map, false, true, slice_get, sum_by}
 use Rattle.std.specs.Fmt.{decimal}
 use Rattle.std.proofs.lemmas.List.Sums.{sum_by-append}
-use Rattle.std.proofs.lemmas.List.Elements.{All-cons, All-nil}
+use Rattle.std.proofs.lemmas.List.Elements.{All-cons, All-head, All-nil}
 use Rattle.std.proofs.lemmas.Option.{get_or_from_slice_get, none-some, same_Some, slice_get-map, slice_get_within}
 use Rattle.model.specs.Configs.{Config}
 use Rattle.model.specs.Records.{Record, IsHistory, last_version, records_of_proxy}
@@ -11,11 +11,12 @@ use Rattle.model.specs.Stamps.{AdmittedTransaction}
 use Rattle.model.proofs.History.Chain.{version_before}
 use Rattle.model.proofs.History.Growth.{own_version_up_to}
 use Rattle.agreed_ledger.specs.declared.refusal.Refusal.TheVariants as refusals
+use Rattle.inboxes.specs.declared.views.MessageKind.TheVariants as kinds
 use Rattle.inboxes.specs.declared.views.MessageView.{MessageView}
 use Rattle.inboxes.specs.Delivers.{of_proxy}
 use Rattle.inboxes.specs.Ends.{ProxyView, SenderView}
-use Rattle.inboxes.specs.Sending.{HasEndLast, ends_in}
-use Rattle.inboxes.specs.MessageViews.{close_view}
+use Rattle.inboxes.specs.Sending.{ends_in}
+use Rattle.inboxes.specs.MessageViews.{close_view, end_view}
 use Rattle.inboxes.proofs.Sent.{one_end}
 use Rattle.locked_cluster.specs.Proxies.{LockedProxyView}
 use Rattle.locked_resolvers.specs.Resolvers.{LockedResolverView}
@@ -31,7 +32,7 @@ use Rattle.threads_lines.specs.Meetings.{AreMeetingLines, IsAuditLine, audit_lin
 use Rattle.threads_lines.specs.Parts.{IsInParts, IsInTurns}
 use Rattle.threads_lines.proofs.CheckLemmas.{all_at}
 use Rattle.threads_lines.proofs.LawLemmas.{an_audit_is_ok_if_all_have_reached}
-use Rattle.threads_run.specs.Delivered.{IsDelivered, IsSideDelivered, IsTaken, messages_of, proxy_of}
+use Rattle.threads_run.specs.Delivered.{AreRequestsAndEnd, GoesByInboxes, IsDelivered, IsRequest, IsSideDelivered, IsTaken, messages_of, proxy_of}
 use Rattle.threads_run.specs.Laws.{ARecordIsOneMessage, EachAuditIsOk, EachRecordHasALine, EachTextWentByItsInboxes, EachWorkerTookAll, GoesByOne, IsClusterOfOne, OneProxyHasItsLines, TookAllOf, WithoutProxiesThereAreNoLines, a_request, batches_in, no_proxies, one_proxy, side_that_sent, text_of_one, the_end, worker_that_took}
 use Rattle.threads_run.specs.Text.{IsProxyText, IsThreadsText, proxy_text}
 use Rattle.threads_scripts.specs.declared.script.ThreadsScript.{ThreadsScript}
@@ -224,10 +225,18 @@ took_all config history workers p r side worker own within there sent =
     let same : all.worker ≡ worker = same_Some all.worker worker (sym all.there ∙ ap (λ (k : ℕ). slice_get workers k) places.0 ∙ there) in
     let taken : IsTaken messages worker sender = subst (λ (w : EndedView). IsTaken messages w sender) same all.taken in
     let proxy : sender.proxy ≡ p = places.1 ∙ own in
-    let got : of_proxy p worker.taken.got ≡ sender.put = ap (λ (q : ℕ). of_proxy q worker.taken.got) (sym proxy) ∙ taken.taken in (
-      ap (λ (ms : List MessageView). length ms) got ∙ taken.count ∙ ap (λ (q : ℕ). messages_of history q) own,
-      subst (λ (ms : List MessageView). HasEndLast p ms) (sym got) (subst (λ (q : ℕ). HasEndLast q sender.put) proxy taken.ended),
-    )
+    let got : of_proxy p worker.taken.got ≡ sender.put = ap (λ (q : ℕ). of_proxy q worker.taken.got) (sym proxy) ∙ taken.taken in
+    let (requests, each, whole) = taken.requests in
+    let both : length sender.put ≡ length requests + 1 =
+    ap (λ (ms : List MessageView). length ms) whole ∙ length-append requests (end_view sender.proxy ∷ []) in
+    let all : length sender.put ≡ length (records_of_proxy p history) + 1 = taken.count ∙ ap (λ (q : ℕ). messages_of history q) own in
+    record {
+      not_closed = taken.not_closed;
+      requests = requests;
+      each = each;
+      count = omega (arith, both, all);
+      taken = got ∙ whole ∙ ap (λ (q : ℕ). requests ++ end_view q ∷ []) proxy;
+    }
 
 pub each_worker_took_all : EachWorkerTookAll
 each_worker_took_all config history sides workers goes p r worker within there =
@@ -249,9 +258,9 @@ only x y (suc k) at = absurd (none-some y at)
 
 -- all that one proxy sent was delivered
 goes_by_one : (history : List Record) (messages : List MessageView)
-    → of_proxy 0 messages ≡ messages → HasEndLast 0 messages → length messages ≡ messages_of history 0
+    → of_proxy 0 messages ≡ messages → AreRequestsAndEnd 0 messages → length messages ≡ messages_of history 0
     → GoesByOne history messages messages
-goes_by_one history messages own last count = record {
+goes_by_one history messages own requests count = record {
   all_sides = refl;
   in_order = first_in_place;
   all_workers = refl;
@@ -261,7 +270,7 @@ goes_by_one history messages own last count = record {
       accepted = refl;
       worker = worker;
       there = refl;
-      taken = record { resolver = refl; taken = own; ended = last; count = count };
+      taken = record { not_closed = refl; resolver = refl; taken = own; requests = requests; count = count };
     }) (All-nil (IsDelivered (messages_of history 0) (worker ∷ [])));
   }) (All-nil (IsSideDelivered one_proxy.config history (worker ∷ [])));
 }
@@ -281,27 +290,64 @@ goes_by_one history messages own last count = record {
     first_in_place (suc p) number at = absurd (none-some number at)
 
 -- what the worker took, if a run of one record went by its inbox
-taken_of_one : (sent taken : List MessageView) → GoesByOne (one_of 10) sent taken → (length (of_proxy 0 taken) ≡ 2) × HasEndLast 0 (of_proxy 0 taken)
+taken_of_one : (sent taken : List MessageView) → GoesByOne (one_of 10) sent taken → TookAllOf (one_of 10) 0 (worker_that_took taken)
 taken_of_one sent taken goes = each_worker_took_all one_proxy.config (one_of 10) (side_that_sent sent ∷ []) (worker_that_took taken ∷ []) goes 0 0 (worker_that_took taken) (omega arith) refl
 
+-- these are two messages
+two_of_one : (sent taken : List MessageView) → GoesByOne (one_of 10) sent taken → length (of_proxy 0 taken) ≡ 2
+two_of_one sent taken goes =
+    let took = taken_of_one sent taken goes in
+    let count : length took.requests ≡ 1 = took.count in
+    let both : length (of_proxy 0 taken) ≡ length took.requests + 1 =
+    ap (λ (ms : List MessageView). length ms) took.taken ∙ length-append took.requests (the_end ∷ []) in
+    omega (arith, count, both)
+
 -- requests are no End
-no_end_last : HasEndLast 0 (a_request ∷ a_request ∷ []) → ⊥
-no_end_last (before, none, whole) =
-    let ends : 0 ≡ ends_in (before ++ the_end ∷ []) = ap (λ (ms : List MessageView). ends_in ms) whole in
-    let one : ends_in (before ++ the_end ∷ []) ≡ ends_in before + 1 = one_end before the_end refl in
+no_end_last : (requests : List MessageView) → a_request ∷ a_request ∷ [] ≡ requests ++ the_end ∷ [] → ⊥
+no_end_last requests whole =
+    let ends : 0 ≡ ends_in (requests ++ the_end ∷ []) = ap (λ (ms : List MessageView). ends_in ms) whole in
+    let one : ends_in (requests ++ the_end ∷ []) ≡ ends_in requests + 1 = one_end requests the_end refl in
     omega (arith, ends, one)
+
+-- a Close is no request
+no_close_first : (requests : List MessageView) → length requests ≡ 1 → All IsRequest requests → close_view 0 ∷ the_end ∷ [] ≡ requests ++ the_end ∷ [] → ⊥
+no_close_first [] one each whole = absurd (omega (arith, one))
+no_close_first (first ∷ requests) one each whole =
+    let same : close_view 0 ≡ first = same_Some (close_view 0) first (ap (λ (ms : List MessageView). slice_get ms 0) whole) in
+    let kind : kinds.Close ≡ kinds.Request = ap (λ (m : MessageView). m.kind) same ∙ All-head IsRequest first requests each in
+    absurd (cc)
+
+-- a run of one record whose worker was closed
+abbrev closed_worker : EndedView
+closed_worker = record (worker_that_took (a_request ∷ the_end ∷ [])) { closed = true }
+
+-- it did not go by its inbox
+no_closed_worker : GoesByInboxes one_proxy.config (one_of 10) (side_that_sent (a_request ∷ the_end ∷ []) ∷ []) (closed_worker ∷ []) → ⊥
+no_closed_worker goes =
+    let took : TookAllOf (one_of 10) 0 closed_worker =
+    each_worker_took_all one_proxy.config (one_of 10) (side_that_sent (a_request ∷ the_end ∷ []) ∷ []) (closed_worker ∷ []) goes 0 0 closed_worker (omega arith) refl in
+    let same : true ≡ false = took.not_closed in
+    absurd (cc)
 
 pub a_record_is_one_message : ARecordIsOneMessage
 a_record_is_one_message = record {
-  goes = goes_by_one (one_of 10) (a_request ∷ the_end ∷ []) refl (a_request ∷ [], refl, refl) refl;
-  goes_round = λ goes. let size : 1 ≡ 2 = (taken_of_one (the_end ∷ []) (the_end ∷ []) goes).0 in absurd (omega (arith, size));
-  a_lost_request = λ goes. let size : 1 ≡ 2 = (taken_of_one (a_request ∷ the_end ∷ []) (the_end ∷ []) goes).0 in absurd (omega (arith, size));
-  a_lost_end = λ goes. let size : 1 ≡ 2 = (taken_of_one (a_request ∷ the_end ∷ []) (a_request ∷ []) goes).0 in absurd (omega (arith, size));
+  goes = goes_by_one (one_of 10) (a_request ∷ the_end ∷ []) refl (a_request ∷ [], All-cons IsRequest a_request [] refl (All-nil IsRequest), refl) refl;
+  goes_round = λ goes. let size : 1 ≡ 2 = two_of_one (the_end ∷ []) (the_end ∷ []) goes in absurd (omega (arith, size));
+  a_lost_request = λ goes. let size : 1 ≡ 2 = two_of_one (a_request ∷ the_end ∷ []) (the_end ∷ []) goes in absurd (omega (arith, size));
+  a_lost_end = λ goes. let size : 1 ≡ 2 = two_of_one (a_request ∷ the_end ∷ []) (a_request ∷ []) goes in absurd (omega (arith, size));
   a_close_more = λ goes.
       let all = close_view 0 ∷ a_request ∷ the_end ∷ [] in
-      let size : 3 ≡ 2 = (taken_of_one all all goes).0 in
+      let size : 3 ≡ 2 = two_of_one all all goes in
       absurd (omega (arith, size));
-  without_an_end = λ goes. no_end_last (taken_of_one (a_request ∷ a_request ∷ []) (a_request ∷ a_request ∷ []) goes).1;
+  a_close_instead = λ goes.
+      let all = close_view 0 ∷ the_end ∷ [] in
+      let took = taken_of_one all all goes in
+      no_close_first took.requests took.count took.each took.taken;
+  without_an_end = λ goes.
+      let all = a_request ∷ a_request ∷ [] in
+      let took = taken_of_one all all goes in
+      no_end_last took.requests took.taken;
+  a_closed_worker = no_closed_worker;
 }
 
 -- ---- a script of one proxy
@@ -347,7 +393,7 @@ lines_of_one v w is =
       all_resolvers = is.resolvers;
       finished = All-cons (HasFinishedAll []) v [] is.new_proxy.version (All-nil (HasFinishedAll []));
       judged = All-cons (HasJudgedAll []) w [] (ap (λ (rs : List Record). length rs) is.new_resolver.records) (All-nil (HasJudgedAll []));
-      by_inboxes = (side_that_sent (the_end ∷ []) ∷ [], worker_that_took (the_end ∷ []) ∷ [], goes_by_one [] (the_end ∷ []) refl ([], refl, refl) refl);
+      by_inboxes = (side_that_sent (the_end ∷ []) ∷ [], worker_that_took (the_end ∷ []) ∷ [], goes_by_one [] (the_end ∷ []) refl ([], All-nil IsRequest, refl) refl);
       shown = ([], routings, refl, (v, refl, refl), refl);
       met = ([], [], refl, refl, refl);
       audited = ([], audits, refl, is.audited, refl);

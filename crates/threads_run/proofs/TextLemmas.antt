@@ -36,7 +36,8 @@ pub threads_text : (script : ThreadsScript) (config : Config) (rows : ℕ) (know
     → HasGoneByInboxes config all.records
     → GrowsBy (AreProxyTexts script.ask proxies) lines shown → GrowsBy (AreMeetingsOf proxies) shown met → GrowsBy (AreAuditsOf config proxies resolvers) met text
     → IsThreadsTextOf script all.records text
-threads_text script config rows known more all proxies resolvers lines shown met text same_config same_rows first first_count second second_count is fits moved counted answered of_proxies of_resolvers all_proxies all_resolvers finished judged by_inboxes with_proxies with_meetings with_audits =
+threads_text script config rows known more all proxies resolvers lines shown met text same_config same_rows first first_count second second_count is
+    fits moved counted answered of_proxies of_resolvers all_proxies all_resolvers finished judged by_inboxes with_proxies with_meetings with_audits =
     let (routings, routes, routings_last) = with_proxies in
     let (meetings, meets, meetings_last) = with_meetings in
     let (audits, are_audits, audits_last) = with_audits in (

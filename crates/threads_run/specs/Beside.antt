@@ -2,7 +2,7 @@
 use Rattle.std.specs.Prelude.{Bool, List, Result, Ok, Err, if◌then◌else◌}
 use Rattle.std.specs.List.{list_any}
 use Rattle.workers.specs.Workers.{EndedView}
-use Rattle.threads_lines.specs.Faults.{fault_beside}
+use Rattle.threads_lines.specs.Faults.{fault_with_workers}
 use Rattle.threads_lines.specs.declared.faults.RunFault.{RunFault}
 use Rattle.threads_lines.specs.declared.faults.RunFault.TheVariants as faults
 
@@ -16,11 +16,11 @@ was_cut_off ended = ended.cut_off
 
 -- The lines of the proxies, if each was answered and no worker was cut off. Otherwise the fault of the
 -- run, with `OutOfMemory` if a proxy or a worker was refused memory.
-abbrev pub lines_beside :
+abbrev pub lines_unless_cut_off :
     {X : Type 0} → Result X RunFault → (workers : List EndedView) → Result X RunFault
-lines_beside (Ok text) workers =
+lines_unless_cut_off (Ok text) workers =
     if list_any was_cut_off workers
-    then Err (fault_beside faults.Refused (list_any was_refused_memory workers))
+    then Err (fault_with_workers faults.Refused (list_any was_refused_memory workers))
     else Ok text
-lines_beside (Err fault) workers =
-    Err (fault_beside fault (list_any was_refused_memory workers))
+lines_unless_cut_off (Err fault) workers =
+    Err (fault_with_workers fault (list_any was_refused_memory workers))

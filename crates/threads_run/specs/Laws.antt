@@ -1,6 +1,6 @@
 -- What the text of a threads script says, and what a run writes: the contracts of laws.rt.
-use Rattle.std.specs.Prelude.{◌≡◌, ◌+◌, ◌<◌, ◌≤◌, ℕ, List, [], ◌∷◌, ◌++◌, length}
-use Rattle.std.specs.Prelude.{IsOk, Some, Ok, Err, false, slice_get}
+use Rattle.std.specs.Prelude.{◌≡◌, ◌+◌, ◌<◌, ◌≤◌, ℕ, List, [], ◌∷◌, ◌++◌, All, length}
+use Rattle.std.specs.Prelude.{IsOk, Some, Ok, Err, false, true, slice_get}
 use Rattle.std.specs.List.{sum_by}
 use Rattle.scripts.specs.Outputs.{OutputView, done, refused_output}
 use Rattle.scripts.specs.declared.script_fault.ScriptFault.{ScriptFault}
@@ -9,13 +9,12 @@ use Rattle.scripts.specs.declared.status.RunStatus.TheVariants.{Done, ScriptRefu
 use Rattle.scripts.specs.declared.status.RunStatus.TheVariants.{DeviceFailed, OutOfMemory, ClusterRefused}
 use Rattle.model.specs.Configs.{Config}
 use Rattle.model.specs.Numbers.{ProxyNumber, ResolverNumber}
-use Rattle.model.specs.Records.{Record}
+use Rattle.model.specs.Records.{Record, records_of_proxy}
 use Rattle.model.specs.Stamps.{AdmittedTransaction}
 use Rattle.agreed_ledger.specs.declared.refusal.Refusal.TheVariants as refusals
 use Rattle.inboxes.specs.declared.views.MessageView.{MessageView}
 use Rattle.inboxes.specs.Delivers.{of_proxy}
 use Rattle.inboxes.specs.Ends.{ProxyView}
-use Rattle.inboxes.specs.Sending.{HasEndLast}
 use Rattle.inboxes.specs.MessageViews.{close_view, end_view, request_view}
 use Rattle.locked_cluster.specs.Proxies.{IsNewLockedProxy, LockedProxyView}
 use Rattle.locked_resolvers.specs.Resolvers.{IsNewLockedResolver, LockedResolverView}
@@ -24,7 +23,7 @@ use Rattle.threads_lines.specs.Laws.{one_of, reached_by_all}
 use Rattle.threads_lines.specs.Lines.{closing_line}
 use Rattle.threads_lines.specs.Meetings.{IsAuditLine, audit_line}
 use Rattle.threads_lines.specs.Parts.{IsInParts}
-use Rattle.threads_run.specs.Delivered.{GoesByInboxes, messages_of}
+use Rattle.threads_run.specs.Delivered.{GoesByInboxes, IsRequest}
 use Rattle.threads_run.specs.Runs.{IsOutputOf, IsOutputFor, WritesOutput}
 use Rattle.threads_run.specs.Text.{IsThreadsText, proxy_text}
 use Rattle.threads_scripts.specs.Scripts.{script_of}
@@ -100,12 +99,13 @@ pub record OneProxyHasItsLines : Type 0 where
 
 -- ---- how a run goes by its inboxes
 
--- the worker took of the proxy a message for each of its records and one more: the End, which is the last, and
--- no other is one
-abbrev pub TookAllOf : (history : List Record) → ProxyNumber → EndedView → Type 0
-TookAllOf history p worker =
-    (length (of_proxy p worker.taken.got) ≡ messages_of history p)
-    × HasEndLast p (of_proxy p worker.taken.got)
+-- the worker, which was not closed, took of the proxy as many requests as this has records, then its End
+pub record TookAllOf (history : List Record) (p : ProxyNumber) (worker : EndedView) : Type 0 where
+  pub not_closed : worker.closed ≡ false
+  pub requests : List MessageView
+  pub each : All IsRequest requests
+  pub count : length requests ≡ length (records_of_proxy p history)
+  pub taken : of_proxy p worker.taken.got ≡ requests ++ end_view p ∷ []
 
 -- where a run goes by its inboxes, each worker took all of each proxy
 abbrev pub EachWorkerTookAll : Type 0
@@ -155,7 +155,8 @@ abbrev pub the_end : MessageView
 the_end = end_view 0
 
 -- A run of one record sent a request and the End. It did not go by its inbox if the proxy asked the resolver
--- in another way, nor if a message was lost, came twice or was a Close, or if the last is no End.
+-- in another way, nor if a message was lost, came twice or was a Close, nor if the last is no End, or if the
+-- worker was closed.
 pub record ARecordIsOneMessage : Type 0 where
   pub goes : GoesByOne (one_of 10) (a_request ∷ the_end ∷ []) (a_request ∷ the_end ∷ [])
   pub goes_round : GoesByOne (one_of 10) (the_end ∷ []) (the_end ∷ []) → ⊥
@@ -164,8 +165,13 @@ pub record ARecordIsOneMessage : Type 0 where
   pub a_close_more :
       GoesByOne (one_of 10) (close_view 0 ∷ a_request ∷ the_end ∷ [])
       (close_view 0 ∷ a_request ∷ the_end ∷ []) → ⊥
+  pub a_close_instead :
+      GoesByOne (one_of 10) (close_view 0 ∷ the_end ∷ []) (close_view 0 ∷ the_end ∷ []) → ⊥
   pub without_an_end :
       GoesByOne (one_of 10) (a_request ∷ a_request ∷ []) (a_request ∷ a_request ∷ []) → ⊥
+  pub a_closed_worker :
+      GoesByInboxes one_proxy.config (one_of 10) (side_that_sent (a_request ∷ the_end ∷ []) ∷ [])
+      (record (worker_that_took (a_request ∷ the_end ∷ [])) { closed = true } ∷ []) → ⊥
 
 -- ---- what answers a script
 

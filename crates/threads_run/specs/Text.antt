@@ -42,9 +42,9 @@ AreProxyTexts ask proxies text =
 -- and each is of one line. The lines of proxies, meetings and audits are all of the same state of the
 -- proxies and the resolvers, as their locks keep it after the answers: each proxy has finished its
 -- records, each resolver has judged all, and those that each of them has are a start of the history.
--- The run went by its inboxes: of each proxy each worker took one message for each of its records, and
+-- The run went by its inboxes: of each proxy each worker took one request for each of its records, and
 -- its End, just as the proxy sent them. Beyond the history no line depends on the schedule of the
--- threads: by the laws `one_end_law` and `batches_law` of endings, every order of offers and finishes
+-- threads: by the laws `one_end_law` and `batches_finish_alike_law` of endings, every order of offers and finishes
 -- that finishes all leads to one world and to the same finished batches.
 pub record IsThreadsText (script : ThreadsScript) (text : List ℕ) : Type 0 where
   pub history : List Record

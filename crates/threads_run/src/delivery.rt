@@ -1,5 +1,5 @@
-//! What is left of the inboxes of a run, and that it went by them: each worker took what each proxy sent
-//! to it, one message for each of its batches and one End.
+//! The check at a run's end that each worker took from each proxy just what it sent, and was not
+//! closed.
 
 ghost use Rattle.std.specs.Prelude.{◌≡◌, ◌<◌, ◌≤◌, ◌^◌, ◌-◌, [], length, map, All, IfErr, IfOk};
 ghost use Rattle.std.specs.Prelude.{OnOk, string_bytes};
@@ -26,12 +26,12 @@ pub(crate) type Ended<N, M> = EndedWorker<N, M, Open>;
 /// What is left of a proxy that has ended: its number, and its sending ends, through which it sends no
 /// more.
 #[derive(Drop)]
-pub(crate) struct EndedSide<N: Naming, M: Channels> {
+pub(crate) struct EndedProxy<N: Naming, M: Channels> {
     proxy: ProxyNumber,
     ends: Vec<EndedSender<N, PendingRequest<N>, M>>,
 }
 
-impl<N: Naming, M: Channels> Model for EndedSide<N, M> {
+impl<N: Naming, M: Channels> Model for EndedProxy<N, M> {
     ghost use Rattle.inboxes.specs.Ends.{ProxyView};
     ghost use Rattle.threads_run.specs.Delivered.{IsEndedSide};
 
@@ -43,20 +43,20 @@ impl<N: Naming, M: Channels> Model for EndedSide<N, M> {
         (record { proxy = s.proxy; ends = s.ends.items }) };
 }
 
-impl<N: Naming, M: Channels> EndedSide<N, M> {
+impl<N: Naming, M: Channels> EndedProxy<N, M> {
     /// Lets the proxy end that has these inboxes.
-    fn of<R: Wait>(rt: &R, inboxes: ProxyInboxes<N, M>) -> EndedSide<N, M>
+    fn of<R: Wait>(rt: &R, inboxes: ProxyInboxes<N, M>) -> EndedProxy<N, M>
         ensures { result.proxy ≡ inboxes }
     {
         let proxy = inboxes.proxy();
-        EndedSide {
+        EndedProxy {
             proxy,
             ends: inboxes.end(rt),
         }
     }
 
     /// Room for what is left of so many proxies.
-    fn room(alloc: Global, count: usize) -> Result<Vec<EndedSide<N, M>>, OutOfMemory>
+    fn room(alloc: Global, count: usize) -> Result<Vec<EndedProxy<N, M>>, OutOfMemory>
         ensures empty { IfOk result (λ sides. sides.items ≡ []) }
         ensures room { IfOk result (λ sides. count ≤ vec_capacity sides) }
     {
@@ -71,7 +71,8 @@ impl<N: Naming, M: Channels> EndedSide<N, M> {
     }
 
     /// Compares what was sent through each end with what the worker of its resolver took. Fails exactly
-    /// if not so many messages were delivered through each of them, with `Refused`.
+    /// if not so many messages were delivered through each of them, requests and last an End, to a worker
+    /// that was not closed, with `Refused`.
     fn check(self, messages: u64, workers: &mut Vec<Ended<N, M>>) -> Result<(), RunFault>
         requires { messages < 2 ^ 64 - 1 }
         ensures kept { IsEndedSide N.cells.config self }
@@ -105,13 +106,13 @@ impl<N: Naming> Model for DeliveredRun<N> {
 
 impl<N: Naming> DeliveredRun<N> {
     /// The run of this history and this text, if it went by its inboxes. `sides` and `workers` are what is
-    /// left of these. Fails exactly if a worker did not take of a proxy one message for each of its records
-    /// in the history, and its End, all that the proxy sent, with `Refused`.
+    /// left of these. Fails exactly if a worker did not take of a proxy one request for each of its records
+    /// in the history, and its End, all that the proxy sent, or if it was closed, with `Refused`.
     pub(crate) fn of<M: Channels>(
         history: RunHistory<N>,
         text: String,
         ledger: &Ledger<N>,
-        sides: Vec<EndedSide<N, M>>,
+        sides: Vec<EndedProxy<N, M>>,
         workers: Vec<Ended<N, M>>,
     ) -> Result<DeliveredRun<N>, RunFault>
         requires sides { length sides.items ≡ N.cells.config.proxies }
@@ -142,41 +143,42 @@ pub(crate) fn end_proxies<N: Naming, M: Channels, R: Wait>(
     rt: &R,
     alloc: Global,
     inboxes: Vec<ProxyInboxes<N, M>>,
-) -> Result<Vec<EndedSide<N, M>>, OutOfMemory>
+) -> Result<Vec<EndedProxy<N, M>>, OutOfMemory>
     ensures { IfOk result (λ sides. AreEndedSides inboxes.items sides.items) }
 {
-    let Ok(sides) = EndedSide::room(alloc, inboxes.len()) else {
+    let Ok(sides) = EndedProxy::room(alloc, inboxes.len()) else {
         for one in inboxes {
             let _ended = one.end(rt);
         }
         return Err(OutOfMemory);
     };
-    Ok(end_all(rt, inboxes, sides))
+    Ok(end_each(rt, inboxes, sides))
 }
 
 /// Lets the proxies end that have these inboxes, in order. Returns what is left of each. `sides` is the
 /// room for it.
-fn end_all<N: Naming, M: Channels, R: Wait>(
+fn end_each<N: Naming, M: Channels, R: Wait>(
     rt: &R,
     inboxes: Vec<ProxyInboxes<N, M>>,
-    mut sides: Vec<EndedSide<N, M>>,
-) -> Vec<EndedSide<N, M>>
+    mut sides: Vec<EndedProxy<N, M>>,
+) -> Vec<EndedProxy<N, M>>
     requires empty { sides.items ≡ [] }
     requires room { length inboxes.items ≤ vec_capacity sides }
     ensures { AreEndedSides inboxes.items result.items }
 {
     for one in inboxes {
-        sides.push_reserved(EndedSide::of(rt, one));
+        sides.push_reserved(EndedProxy::of(rt, one));
     }
     sides
 }
 
 /// Compares what each worker took of each proxy with what that proxy sent to it. Fails exactly if these
-/// are not one message for each of the proxy's records in the history, and its End, with `Refused`.
+/// are not one request for each of the proxy's records in the history, and its End, or if a worker was
+/// closed, with `Refused`.
 fn check_delivered<N: Naming, M: Channels>(
     history: &RunHistory<N>,
     ledger: &Ledger<N>,
-    sides: Vec<EndedSide<N, M>>,
+    sides: Vec<EndedProxy<N, M>>,
     mut workers: Vec<Ended<N, M>>,
 ) -> Result<(), RunFault>
     ensures checked { OnOk result (All
@@ -192,7 +194,8 @@ fn check_delivered<N: Naming, M: Channels>(
 }
 
 /// Compares what was sent through each of the ends with what the worker of its resolver took. Fails
-/// exactly if not so many messages were delivered through each of them, with `Refused`.
+/// exactly if not so many messages were delivered through each of them, requests and last an End, to a
+/// worker that was not closed, with `Refused`.
 fn check_senders<N: Naming, M: Channels>(
     messages: u64,
     senders: Vec<EndedSender<N, PendingRequest<N>, M>>,
@@ -212,7 +215,8 @@ fn check_senders<N: Naming, M: Channels>(
 }
 
 /// Compares what was sent through the end with what the worker of its resolver took. Fails exactly if not
-/// so many messages were delivered, with `Refused`.
+/// so many messages were delivered, requests and last an End, to a worker that was not closed, with
+/// `Refused`.
 fn check_sender<N: Naming, M: Channels>(
     messages: u64,
     sender: EndedSender<N, PendingRequest<N>, M>,
@@ -235,7 +239,8 @@ fn check_sender<N: Naming, M: Channels>(
 }
 
 /// Compares what was sent through the end, where no message was refused, with what the worker took. Fails
-/// exactly if not so many messages were delivered to it, with `Refused`.
+/// exactly if not so many messages were delivered to it, requests and last an End, or if it was closed, with
+/// `Refused`. (A worker that took a Close was closed, by its type.)
 fn check_worker<N: Naming, M: Channels>(
     messages: u64,
     sender: EndedSender<N, PendingRequest<N>, M>,
@@ -247,6 +252,9 @@ fn check_worker<N: Naming, M: Channels>(
     ensures checked { OnOk result (IsTaken messages worker.old sender) }
     ensures err { IfErr result (FailsCheckOf (IsTaken messages worker.old sender)) }
 {
+    if worker.closed() {
+        return Err(RunFault::Refused);
+    }
     let Ok(counts) = worker.compare(sender) else {
         return Err(RunFault::Refused);
     };

@@ -12,7 +12,7 @@ ghost use Rattle.threads_run.specs.Laws.{WithoutProxiesThereAreNoLines};
 
 /// Each audit of a text says `ok`. The history of a text has no record without a line, and its run went by its
 /// inboxes. Where there are no proxies, a text has no lines; one proxy has its own.
-pub fn text_law()
+pub fn all_lines_law()
     ensures audits { EachAuditIsOk }
     ensures records { EachRecordHasALine }
     ensures inboxes { EachTextWentByItsInboxes }
@@ -20,22 +20,22 @@ pub fn text_law()
     ensures one_proxy { OneProxyHasItsLines }
 {}
 
-/// Of a run that goes by its inboxes each worker took of each proxy one message for each of its records, and
-/// its End: not fewer, not more, and nothing else in their place.
-pub fn delivery_law()
+/// Of a run that goes by its inboxes each worker took of each proxy one request for each of its records, and
+/// its End: not fewer, not more, and nothing else in their place. No worker was closed.
+pub fn all_messages_delivered_law()
     ensures taken { EachWorkerTookAll }
     ensures message { ARecordIsOneMessage }
 {}
 
 /// A fault is answered by its own line, with its own status, and a script without a fault by no refusal.
-pub fn answer_law()
+pub fn fault_answered_by_line_law()
     ensures fault { AFaultHasOneAnswer }
     ensures no_fault { AScriptWithoutFaultIsNotRefused }
 {}
 
 /// What a run wrote that changed its sink: a text of its script, the line of the script's fault, or a
 /// beginning of one of these.
-pub fn written_law()
+pub fn written_from_text_law()
     ensures done { ADoneRunWroteATextOfItsScript }
     ensures refused { ARefusedRunWroteTheFault }
     ensures failed { AFailedRunWroteABeginning }

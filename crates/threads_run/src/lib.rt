@@ -11,7 +11,9 @@ mod run;
 mod running;
 mod text;
 
-pub use laws::{answer_law, delivery_law, text_law, written_law};
+pub use laws::{
+    all_lines_law, all_messages_delivered_law, fault_answered_by_line_law, written_from_text_law,
+};
 pub use run::run_threads;
 pub use threads_lines::status_of;
 pub use threads_scripts::{ThreadsScript, UndatedMove, read_threads, stream_threads};

@@ -1,12 +1,12 @@
-//! What the threads of a run share.
+//! What the threads of a run over inboxes share: the cluster, and the ends of its inboxes.
 
 ghost use Rattle.std.specs.Prelude.{◌≡◌, ◌<◌, [], length, IfOk, Ok, OnOk, string_bytes};
 ghost use Rattle.std.specs.List.{list_any};
-ghost use Rattle.threads_run.specs.Beside.{lines_beside, was_cut_off, was_refused_memory};
+ghost use Rattle.threads_run.specs.Beside.{lines_unless_cut_off, was_cut_off, was_refused_memory};
 ghost use Rattle.threads_lines.specs.Parts.{GrowsBy, IsInParts};
 ghost use Rattle.threads_lines.specs.Threads.{AreInPlace};
 
-use crate::delivery::{Ended, EndedSide, end_proxies};
+use crate::delivery::{Ended, EndedProxy, end_proxies};
 use agreed_ledger::{Ledger, Naming};
 use inboxes::{Channels, FreshEnd};
 use locked_cluster::SharedResolver;
@@ -23,12 +23,12 @@ use workers::{Open, PendingRequest, ProxyInboxes, ResolverWorker};
 
 /// The resolvers of the cluster, which workers ask for the proxies.
 #[derive(Drop)]
-pub(crate) struct Serving<'a, 'l, N: Naming> {
+pub(crate) struct RunResolvers<'a, 'l, N: Naming> {
     pub(crate) resolvers: &'a [SharedResolver<'l, N>],
     ghost in_place: { AreInPlace resolvers.now },
 }
 
-impl<'a, 'l, N: Naming> Serving<'a, 'l, N> {
+impl<'a, 'l, N: Naming> RunResolvers<'a, 'l, N> {
     /// The resolver of this number.
     fn resolver(&self, number: ResolverNumber) -> &'a SharedResolver<'l, N>
         requires { number < length self.now.resolvers.now }
@@ -39,7 +39,7 @@ impl<'a, 'l, N: Naming> Serving<'a, 'l, N> {
 }
 
 impl<'a, 'l, N: Naming, M: Channels> ServesInbox<FreshEnd<N, PendingRequest<N>, M>, Ended<N, M>>
-    for Serving<'a, 'l, N> {
+    for RunResolvers<'a, 'l, N> {
     ghost can_serve = { λ serving end. end < length serving.resolvers.now };
 
     fn serve<R: Wait>(
@@ -60,19 +60,19 @@ impl<'a, 'l, N: Naming, M: Channels> ServesInbox<FreshEnd<N, PendingRequest<N>, 
 /// only as a resolver that is closed, so the workers are asked too. If each proxy was answered, the
 /// lines are right whatever the workers were refused; but a run in which a worker was cut off fails,
 /// since some proxy did not send its last message to it.
-pub(crate) fn lines_beside<N: Naming, M: Channels>(
+pub(crate) fn lines_unless_cut_off<N: Naming, M: Channels>(
     lines: Result<AnsweredLines<N>, RunFault>,
     workers: &[Ended<N, M>],
 ) -> Result<AnsweredLines<N>, RunFault>
-    ensures beside { result ≡ lines_beside lines workers.now }
+    ensures beside { result ≡ lines_unless_cut_off lines workers.now }
     ensures answered { IfOk result (λ answered. lines ≡ Ok answered) }
 {
     let refused_memory = were_refused_memory(workers);
     let cut_off = were_cut_off(workers);
     match lines {
-        Ok(_lines) if cut_off => Err(RunFault::Refused.fault_beside(refused_memory)),
+        Ok(_lines) if cut_off => Err(RunFault::Refused.fault_with_workers(refused_memory)),
         Ok(answered) => Ok(answered),
-        Err(fault) => Err(fault.fault_beside(refused_memory)),
+        Err(fault) => Err(fault.fault_with_workers(refused_memory)),
     }
 }
 
@@ -159,7 +159,7 @@ impl<'a, 'l, N: Naming, M: Channels> CommitsBatches<N> for Running<'a, 'l, N, M>
     }
 }
 
-impl<'a, 'l, N: Naming, M: Channels> EndsProxies<Result<Vec<EndedSide<N, M>>, OutOfMemory>>
+impl<'a, 'l, N: Naming, M: Channels> EndsProxies<Result<Vec<EndedProxy<N, M>>, OutOfMemory>>
     for Running<'a, 'l, N, M> {
     ghost use Rattle.std.specs.Prelude.{IfOk};
     ghost use Rattle.threads_run.specs.Delivered.{AreEndedSides};
@@ -167,7 +167,7 @@ impl<'a, 'l, N: Naming, M: Channels> EndsProxies<Result<Vec<EndedSide<N, M>>, Ou
     ghost ends_with = { λ running ended. IfOk ended
         (λ sides. AreEndedSides running.inboxes.items sides.items) };
 
-    fn end<R: Wait>(self, rt: &R) -> Result<Vec<EndedSide<N, M>>, OutOfMemory> {
+    fn end<R: Wait>(self, rt: &R) -> Result<Vec<EndedProxy<N, M>>, OutOfMemory> {
         end_proxies(rt, self.alloc, self.inboxes)
     }
 }

@@ -1,4 +1,5 @@
-//! The text of a threads script.
+//! The whole text of a threads script: the cluster is run over inboxes, then the lines of its
+//! proxies are printed.
 
 ghost use Rattle.std.specs.Prelude.{◌≡◌, ◌++◌, length, map, IfOk, OnOk, string_bytes};
 ghost use Rattle.inboxes.specs.Blanks.{AreSides};
@@ -8,8 +9,8 @@ ghost use Rattle.threads_lines.specs.Threads.{AreAnswerLines, AreInPlace};
 ghost use Rattle.threads_run.specs.Delivered.{proxy_of};
 ghost use Rattle.threads_run.specs.Text.{AreProxyTexts, IsThreadsText, IsThreadsTextOf, proxy_text};
 
-use crate::delivery::{DeliveredRun, Ended, EndedSide};
-use crate::running::{Running, Serving, lines_beside};
+use crate::delivery::{DeliveredRun, Ended, EndedProxy};
+use crate::running::{RunResolvers, Running, lines_unless_cut_off};
 use agreed_ledger::{BlankLedger, Ledger, Naming, Refusal};
 use cluster_lines::print_proxy_metadata;
 use inboxes::{BlankInboxes, Channels, InboxRoom, ProxySenders};
@@ -35,8 +36,8 @@ use workers::{PendingRequest, ProxyInboxes};
 /// Fails with `OutOfMemory` if an allocation failed or a thread could not be started, and with
 /// `Refused` if the cluster refuses a call in any other way than by the end of the ledger or of the
 /// versions, if a worker was cut off, since some proxy did not send its last message, or if a check at
-/// the end of the run fails, which no run is known to do: also if a worker did not take of a proxy one
-/// message for each of its batches and its last one, all that the proxy sent.
+/// the end of the run fails, which no run is known to do: also if a worker was closed, or did not take of
+/// a proxy one request for each of its batches and its last message, all that the proxy sent.
 pub(crate) fn threads_text<R: Threads + Wait + Sync>(
     rt: &R,
     alloc: Global,
@@ -46,7 +47,7 @@ pub(crate) fn threads_text<R: Threads + Wait + Sync>(
     ensures { IfOk result (λ text. IsThreadsText script.now (string_bytes text)) }
 {
     let blank = blank_ledger(alloc, script)?;
-    threads_text_in::<Brand, R>(rt, alloc, blank, script)
+    threads_text_by_ledger::<Brand, R>(rt, alloc, blank, script)
 }
 
 /// The ledger of the script before its first batch. Fails only with `OutOfMemory`.
@@ -63,7 +64,7 @@ fn blank_ledger(alloc: Global, script: &ThreadsScript) -> Result<BlankLedger, Ou
 }
 
 /// The text of the script, by a cluster about this ledger.
-fn threads_text_in<N: Naming + Send + Sync, R: Threads + Wait + Sync>(
+fn threads_text_by_ledger<N: Naming + Send + Sync, R: Threads + Wait + Sync>(
     rt: &R,
     alloc: Global,
     blank: BlankLedger,
@@ -79,12 +80,12 @@ fn threads_text_in<N: Naming + Send + Sync, R: Threads + Wait + Sync>(
     let cluster = RunCluster::new(alloc, &ledger)?;
     cluster.move_ranges(rt, script.moves.as_slice())?;
     let inboxes = BlankInboxes::new(alloc, &ledger)?;
-    let run = text_over::<N, Brand, R>(rt, alloc, &ledger, &cluster, inboxes, script)?;
+    let run = run_over_inboxes::<N, Brand, R>(rt, alloc, &ledger, &cluster, inboxes, script)?;
     Ok(run.into_text())
 }
 
 /// The outcome of the script in this cluster over these inboxes: a run that went by them.
-fn text_over<N: Naming + Send + Sync, M: Channels + Send + Sync, R: Threads + Wait + Sync>(
+fn run_over_inboxes<N: Naming + Send + Sync, M: Channels + Send + Sync, R: Threads + Wait + Sync>(
     rt: &R,
     alloc: Global,
     ledger: &Ledger<N>,
@@ -101,7 +102,7 @@ fn text_over<N: Naming + Send + Sync, M: Channels + Send + Sync, R: Threads + Wa
     ensures { IfOk result (λ run. IsThreadsTextOf script.now run.history run.text) }
 {
     let work = script.work.as_slice();
-    let run = answers_over::<N, M, R>(rt, alloc, ledger, cluster, blank, work)?;
+    let run = answers_over_inboxes::<N, M, R>(rt, alloc, ledger, cluster, blank, work)?;
     let AnsweredRun {
         lines,
         sides,
@@ -132,13 +133,17 @@ fn text_over<N: Naming + Send + Sync, M: Channels + Send + Sync, R: Threads + Wa
 #[derive(Drop)]
 struct AnsweredRun<N: Naming, M: Channels> {
     lines: AnsweredLines<N>,
-    sides: Vec<EndedSide<N, M>>,
+    sides: Vec<EndedProxy<N, M>>,
     workers: Vec<Ended<N, M>>,
 }
 
 /// The lines of the answers to all batches and closings, over these inboxes, and what is left of the
 /// proxies and the workers, each in the order of their numbers.
-fn answers_over<N: Naming + Send + Sync, M: Channels + Send + Sync, R: Threads + Wait + Sync>(
+fn answers_over_inboxes<
+    N: Naming + Send + Sync,
+    M: Channels + Send + Sync,
+    R: Threads + Wait + Sync,
+>(
     rt: &R,
     alloc: Global,
     ledger: &Ledger<N>,
@@ -160,7 +165,7 @@ fn answers_over<N: Naming + Send + Sync, M: Channels + Send + Sync, R: Threads +
 {
     let room = InboxRoom::<N, PendingRequest<N>, M>::new(alloc, ledger)?;
     let (senders, ends) = blank.named::<M>(room);
-    let serving = Serving {
+    let serving = RunResolvers {
         resolvers: cluster.resolvers.as_slice(),
     };
     let running = Running {
@@ -176,7 +181,7 @@ fn answers_over<N: Naming + Send + Sync, M: Channels + Send + Sync, R: Threads +
     } = commit_over_workers(rt, alloc, &serving, ends, running, work)?;
     let sides = ended?;
     Ok(AnsweredRun {
-        lines: lines_beside(lines, workers.as_slice())?,
+        lines: lines_unless_cut_off(lines, workers.as_slice())?,
         sides,
         workers,
     })

@@ -4,7 +4,7 @@ use Rattle.std.specs.Prelude.{Option, Some, None, Result, Ok, Err}
 use Rattle.std.specs.List.{list_all}
 use Rattle.std.proofs.lemmas.Bool.{leb-true, eqb-true}
 use Rattle.serde_json.specs.Data.{Data}
-use Rattle.model.specs.Configs.{is_from_one}
+use Rattle.model.specs.Configs.{is_from_one_to}
 use Rattle.model.specs.Stamps.{AdmittedTransaction}
 use Rattle.agreed_ledger.specs.Cells.{ledger_limit}
 use Rattle.scripts.specs.BatchChecks.{checked_transactions}
@@ -13,7 +13,7 @@ use Rattle.scripts.specs.Scripts.{checked_data, checked_raw, read_as}
 use Rattle.scripts.specs.Values.{value_of}
 use Rattle.scripts.specs.declared.script_fault.ScriptFault.{ScriptFault}
 use Rattle.scripts.specs.declared.script_fault.ScriptFault.TheVariants as faults
-use Rattle.threads_scripts.specs.Checks.{checked_move, checked_script, checked_work, has_resolver, with_resolvers}
+use Rattle.threads_scripts.specs.Checks.{checked_move, checked_script, checked_work, has_destination, with_resolvers}
 use Rattle.threads_scripts.specs.Limits.{is_within_limits, script_shape}
 use Rattle.threads_scripts.specs.Runnable.{IsRunnable}
 use Rattle.threads_scripts.specs.Shapes.{threads_fields_shape}
@@ -48,7 +48,7 @@ both_of true b is = (refl, is)
 both_of false b is = let none : false ≡ true = is in cc
 
 with_these : (raw : RawThreads) (script : ThreadsScript) (moves : List UndatedMove) (work : List (List (List AdmittedTransaction))) (b : Bool)
-    → is_within_limits raw ≡ true → length work ≡ length raw.work → list_all (has_resolver raw.config.resolvers) moves ≡ b
+    → is_within_limits raw ≡ true → length work ≡ length raw.work → list_all (has_destination raw.config.resolvers) moves ≡ b
     → with_resolvers (script_from raw moves work) ≡ Ok script → IsRunnable script
 with_these raw script moves work false within long some is =
     let refused : with_resolvers (script_from raw moves work) ≡ Err faults.NoSuchResolver = rw some refl in
@@ -56,7 +56,7 @@ with_these raw script moves work false within long some is =
 with_these raw script moves work true within long all is =
     let passed : with_resolvers (script_from raw moves work) ≡ Ok (script_from raw moves work) = rw all refl in
     let same : script ≡ script_from raw moves work = cc in
-    let (rows, lists) = both_of (is_from_one ledger_limit raw.rows) (nat_eq (length raw.work) raw.config.proxies) within in
+    let (rows, lists) = both_of (is_from_one_to ledger_limit raw.rows) (nat_eq (length raw.work) raw.config.proxies) within in
     let (above, below) = both_of (nat_le 1 raw.rows) (nat_le raw.rows ledger_limit) rows in
     rw same (record {
       rows = (leb-true 1 raw.rows above, leb-true raw.rows ledger_limit below);
@@ -70,7 +70,7 @@ with_checked : (raw : RawThreads) (script : ThreadsScript) (moves : Result (List
 with_checked raw script (Err fault) work within worked is = absurd (cc)
 with_checked raw script (Ok ms) (Err fault) within worked is = absurd (cc)
 with_checked raw script (Ok ms) (Ok w) within worked is =
-    with_these raw script ms w (list_all (has_resolver raw.config.resolvers) ms) within (length-checked (each_checked checked_transactions) raw.work w worked) refl is
+    with_these raw script ms w (list_all (has_destination raw.config.resolvers) ms) within (length-checked (each_checked checked_transactions) raw.work w worked) refl is
 
 checked_runnable : (raw : RawThreads) (script : ThreadsScript) → is_within_limits raw ≡ true → checked_script raw ≡ Ok script → IsRunnable script
 checked_runnable raw script within is = with_checked raw script (each_checked checked_move raw.moves) (checked_work raw.work) within refl is

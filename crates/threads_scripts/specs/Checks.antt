@@ -25,12 +25,12 @@ abbrev pub checked_work : List (List (List Transaction))
 checked_work work = each_checked (each_checked checked_transactions) work
 
 -- the move goes to one of this many resolvers
-abbrev pub has_resolver : ℕ → UndatedMove → Bool
-has_resolver resolvers moved = nat_lt moved.dest resolvers
+abbrev pub has_destination : ℕ → UndatedMove → Bool
+has_destination resolvers moved = nat_lt moved.dest resolvers
 
 abbrev pub with_resolvers : ThreadsScript → Result ThreadsScript ScriptFault
 with_resolvers script =
-    if list_all (has_resolver script.config.resolvers) script.moves then Ok script
+    if list_all (has_destination script.config.resolvers) script.moves then Ok script
     else Err NoSuchResolver
 
 -- the script, or its first fault; asked keys are not checked

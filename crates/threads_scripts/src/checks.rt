@@ -3,7 +3,7 @@
 
 ghost use Rattle.std.specs.Prelude.{◌≡◌};
 ghost use Rattle.std.specs.List.{list_all};
-ghost use Rattle.threads_scripts.specs.Checks.{checked_move, checked_script, has_resolver};
+ghost use Rattle.threads_scripts.specs.Checks.{checked_move, checked_script, has_destination};
 
 use crate::script::{RawThreads, ThreadsScript, UndatedMove};
 use cluster_scripts::GivenMove;
@@ -32,7 +32,7 @@ impl Checked<RawThreads> for ThreadsScript {
             work: check_each(alloc, raw.work)?,
             ask: raw.ask,
         };
-        if have_resolvers(script.config.resolvers(), script.moves.as_slice()) {
+        if have_destinations(script.config.resolvers(), script.moves.as_slice()) {
             Ok(script)
         } else {
             Err(ScriptFault::NoSuchResolver)
@@ -41,14 +41,14 @@ impl Checked<RawThreads> for ThreadsScript {
 }
 
 // Whether each move goes to one of this many resolvers.
-fn have_resolvers(resolvers: usize, moves: &[UndatedMove]) -> bool
-    ensures { result ≡ list_all (has_resolver resolvers) moves.now }
+fn have_destinations(resolvers: usize, moves: &[UndatedMove]) -> bool
+    ensures { result ≡ list_all (has_destination resolvers) moves.now }
 {
-    moves.iter().all(|moved| has_resolver(resolvers, moved))
+    moves.iter().all(|moved| has_destination(resolvers, moved))
 }
 
-fn has_resolver(resolvers: usize, moved: &UndatedMove) -> bool
-    ensures { result ≡ has_resolver resolvers moved.now }
+fn has_destination(resolvers: usize, moved: &UndatedMove) -> bool
+    ensures { result ≡ has_destination resolvers moved.now }
 {
     moved.dest < resolvers
 }

@@ -9,7 +9,7 @@ mod limits;
 mod reading;
 mod script;
 mod shapes;
-mod streams;
+mod threads_fields;
 
 pub use reading::{read_threads, stream_threads};
 pub use script::{ThreadsScript, UndatedMove};

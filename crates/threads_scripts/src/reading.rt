@@ -1,4 +1,4 @@
-//! Reading of threads scripts.
+//! Reading a threads script: by its tokens, else by its JSON value.
 
 ghost use Rattle.std.specs.Prelude.{◌≡◌, IfOk, IfSome, Ok};
 ghost use Rattle.scripts.specs.ScriptFaults.{IsReadAs};

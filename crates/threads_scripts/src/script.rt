@@ -27,7 +27,7 @@ pub struct ThreadsScript {
 }
 
 impl ThreadsScript {
-    /// Returns a deep copy. Fails only with `OutOfMemory`.
+    /// Returns an equal copy. Fails only with `OutOfMemory`.
     pub fn copy(&self) -> Result<ThreadsScript, OutOfMemory>
         ensures { IfOk result (λ copy. copy ≡ self.now) }
     {
@@ -54,7 +54,7 @@ pub struct UndatedMove {
 }
 
 impl UndatedMove {
-    /// Returns a deep copy. Fails only with `OutOfMemory`.
+    /// Returns an equal copy. Fails only with `OutOfMemory`.
     pub fn copy(&self) -> Result<UndatedMove, OutOfMemory>
         ensures { IfOk result (λ copy. copy ≡ self.now) }
     {
@@ -77,7 +77,7 @@ pub(crate) struct RawThreads {
     pub(crate) ask: Items<Bytes>,
 }
 
-/// A deep copy of the moves.
+/// A copy of the moves.
 fn copy_moves(alloc: Global, moves: &[UndatedMove]) -> Result<Items<UndatedMove>, OutOfMemory>
     ensures { IfOk result (λ copy. copy ≡ moves.now) }
 {
@@ -88,7 +88,7 @@ fn copy_moves(alloc: Global, moves: &[UndatedMove]) -> Result<Items<UndatedMove>
     Ok(Items::from(copies))
 }
 
-/// A deep copy of the batches of all proxies.
+/// A copy of the batches of all proxies.
 fn copy_work(alloc: Global, work: &[Items<Batch>]) -> Result<Items<Items<Batch>>, OutOfMemory>
     ensures { IfOk result (λ copy. copy ≡ work.now) }
 {
@@ -99,7 +99,7 @@ fn copy_work(alloc: Global, work: &[Items<Batch>]) -> Result<Items<Items<Batch>>
     Ok(Items::from(copies))
 }
 
-/// A deep copy of the batches of one proxy.
+/// A copy of the batches of one proxy.
 fn copy_batches(alloc: Global, batches: &[Batch]) -> Result<Items<Batch>, OutOfMemory>
     ensures { IfOk result (λ copy. copy ≡ batches.now) }
 {

@@ -1,4 +1,4 @@
-//! What is read of the values of a threads script.
+//! Moves, batches and the whole of a threads script from JSON values.
 
 ghost use Rattle.serde_json.specs.View.{view};
 ghost use Rattle.scripts.specs.ScriptFaults.{IsReadAs};

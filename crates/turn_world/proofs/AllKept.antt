@@ -1,17 +1,14 @@
--- What is kept of the requests for all rows.
+-- What is kept of all rows.
 use Rattle.std.proofs.Common.{◌≡◌, ◌∙◌, refl, sym, ap, subst, ℕ, zero, suc, ◌+◌, ◌<◌, ◌≤◌, List, [], ◌∷◌, ◌++◌, length, slice_get, slice_index, slice_set, length-set, Bool, true, false, nat_eq, Some, None, ◌⊎◌, inl, inr, cond, filter, nat_le, arith}
 use Rattle.std.proofs.lemmas.Bool.{eqb-true, eqb-false, leb-false}
 use Rattle.std.proofs.lemmas.List.Elements.{filter-append}
 use Rattle.model.specs.Shares.{each_below}
-use Rattle.model.specs.Requests.{Request}
 use Rattle.model.proofs.Worlds.Runs.{set_same, set_other}
-use Rattle.turn_world.specs.KeptRequests.{HasNumbersOf, AreKeptOf}
-use Rattle.turn_world.specs.Kept.{AreRequestsKept}
+use Rattle.turn_world.specs.Kept.{IsJudgedByAll, IsRowKept, AreRowsKept}
 use Rattle.turn_world.specs.Parts.{missing_of}
 use Rattle.turn_world.specs.declared.kept_record.KeptRecord.{KeptRecord}
-use Rattle.turn_world.proofs.KeptNumbers.{own_numbers, same_some}
 
-pub none_kept : (counts : List ℕ) (rows : List KeptRecord) → rows ≡ [] → AreRequestsKept counts rows
+pub none_kept : (counts : List ℕ) (rows : List KeptRecord) → rows ≡ [] → AreRowsKept counts rows
 none_kept counts rows is row one at =
     let both : None ≡ Some one = sym (ap (λ (xs : List KeptRecord). slice_get xs row) is) ∙ at in absurd (cc)
 
@@ -23,42 +20,32 @@ found_pushed [] y (suc i) x at = absurd (cc)
 found_pushed (z ∷ zs) y zero x at = inl at
 found_pushed (z ∷ zs) y (suc i) x at = found_pushed zs y i x at
 
-whole_kept : (counts : List ℕ) (row : ℕ) (sent kept : List Request) → kept ≡ sent → AreKeptOf counts row sent kept
-whole_kept counts row sent kept is =
-    record {
-      count = ap length is;
-      each = λ r s q within at_s at_q.
-          let same : q ≡ s = same_some q s (sym at_q ∙ ap (λ (qs : List Request). slice_get qs r) is ∙ at_s) in
-          record { numbers = subst (HasNumbersOf s) (sym same) (own_numbers s); whole = λ left. same };
-    }
-
-pub pushed_kept : (counts : List ℕ) (rows new : List KeptRecord) (one : KeptRecord) → new ≡ rows ++ one ∷ [] → one.kept.requests.items ≡ one.sent.known → AreRequestsKept counts rows → AreRequestsKept counts new
-pushed_kept counts rows new one is whole all row x at = by (found_pushed rows one row x (sym (ap (λ (xs : List KeptRecord). slice_get xs row) is) ∙ at))
+pub pushed_kept : (counts : List ℕ) (rows new : List KeptRecord) (one : KeptRecord) → new ≡ rows ++ one ∷ [] → one.proxy ≡ one.rec.known.proxy → one.kept.requests.items ≡ one.sent.known → AreRowsKept counts rows → AreRowsKept counts new
+pushed_kept counts rows new one is proxy whole all row x at = by (found_pushed rows one row x (sym (ap (λ (xs : List KeptRecord). slice_get xs row) is) ∙ at))
   where
-    by : (slice_get rows row ≡ Some x) ⊎ (x ≡ one) → AreKeptOf counts row x.sent.known x.kept.requests.items
+    by : (slice_get rows row ≡ Some x) ⊎ (x ≡ one) → IsRowKept counts row x
     by (inl before) = all row x before
-    by (inr same) = subst (λ (y : KeptRecord). AreKeptOf counts row y.sent.known y.kept.requests.items) (sym same) (whole_kept counts row one.sent.known one.kept.requests.items whole)
+    by (inr same) = subst (IsRowKept counts row) (sym same) (record { proxy = proxy; requests = inl whole })
 
 -- ---- a row that a resolver has judged
 
-pub judged_kept_all : (counts : List ℕ) (rows : List KeptRecord) (r row : ℕ) → r < length counts → slice_index counts r ≤ row → AreRequestsKept counts rows → AreRequestsKept (slice_set counts r (row + 1)) rows
+pub judged_kept_all : (counts : List ℕ) (rows : List KeptRecord) (r row : ℕ) → r < length counts → slice_index counts r ≤ row → AreRowsKept counts rows → AreRowsKept (slice_set counts r (row + 1)) rows
 judged_kept_all counts rows r row there front all i one at =
-    record {
-      count = (all i one at).count;
-      each = λ k s q within at_s at_q.
-          let was = (all i one at).each k s q (omega (arith, within, length-set counts r (row + 1))) at_s at_q in
-          record { numbers = was.numbers; whole = λ left. was.whole (before k (nat_eq k r) refl left) };
-    }
+    record { proxy = (all i one at).proxy; requests = by (all i one at).requests }
   where
-    before : (k : ℕ) (t : Bool) → nat_eq k r ≡ t → slice_index (slice_set counts r (row + 1)) k ≤ i → slice_index counts k ≤ i
-    before k true e left =
+    after : (k : ℕ) (t : Bool) → nat_eq k r ≡ t → i < slice_index counts k → i < slice_index (slice_set counts r (row + 1)) k
+    after k true e judged =
         let same : k ≡ r = eqb-true k r e in
         let set : slice_index (slice_set counts r (row + 1)) k ≡ row + 1 = ap (slice_index (slice_set counts r (row + 1))) same ∙ set_same counts r (row + 1) there in
         let old : slice_index counts k ≡ slice_index counts r = ap (slice_index counts) same in
-        omega (arith, left, set, old, front)
-    before k false e left =
+        omega (arith, judged, set, old, front)
+    after k false e judged =
         let set : slice_index (slice_set counts r (row + 1)) k ≡ slice_index counts k = set_other counts r (row + 1) k (eqb-false k r e) in
-        omega (arith, left, set)
+        omega (arith, judged, set)
+
+    by : (one.kept.requests.items ≡ one.sent.known) ⊎ ((one.kept.requests.items ≡ []) × IsJudgedByAll counts i) → (one.kept.requests.items ≡ one.sent.known) ⊎ ((one.kept.requests.items ≡ []) × IsJudgedByAll (slice_set counts r (row + 1)) i)
+    by (inl whole) = inl whole
+    by (inr (none, judged)) = inr (none, λ k within. after k (nat_eq k r) refl (judged k (omega (arith, within, length-set counts r (row + 1)))))
 
 -- ---- a row that every resolver has judged
 

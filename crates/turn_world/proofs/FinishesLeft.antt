@@ -1,13 +1,13 @@
 -- The finishes that are left, as events, and a run that carries out what is left.
-use Rattle.std.proofs.Common.{◌≡◌, refl, sym, ap, ◌∙◌, subst, ℕ, zero, suc, ◌<◌, ◌≤◌, inl, inr, List, [], ◌∷◌, ◌++◌, map, filter, take, length, true, false, slice_get, Option, Some, None, length-append, append-nil, arith}
+use Rattle.std.proofs.Common.{◌≡◌, refl, sym, ap, ◌∙◌, subst, ℕ, zero, suc, ◌<◌, ◌≤◌, inl, inr, List, [], ◌∷◌, ◌++◌, map, filter, take, length, true, false, slice_get, slice_index, Option, Some, None, length-append, append-nil, arith}
 use Rattle.std.specs.Prelude.{Result, Ok, Err, IsOk, IsTrue, IsFalse, MatchResult, All, flat_map}
 use Rattle.std.specs.List.{list_all}
 use Rattle.std.proofs.lemmas.Bool.{lt-ltb, le-ltb}
 use Rattle.std.proofs.lemmas.List.{map-append, length-map}
 use Rattle.std.proofs.lemmas.List.Elements.{All-nil, All-cons, filter-append}
 use Rattle.model.specs.Configs.{Config, IsConfig}
-use Rattle.model.specs.Records.{Record}
-use Rattle.model.specs.Requests.{Request, request_back_to}
+use Rattle.model.specs.Records.{Record, IsHistory}
+use Rattle.model.specs.Requests.{Request}
 use Rattle.model.specs.ResolverMemory.{ResolverView}
 use Rattle.model.specs.Finishing.{ProxyView}
 use Rattle.model.specs.Offers.{sent_request}
@@ -15,6 +15,7 @@ use Rattle.model.specs.Shares.{each_below}
 use Rattle.model.specs.World as world
 use Rattle.model.specs.World.{World, IsSound, finished_version, missing_replies, answers}
 use Rattle.model.specs.Turns.{TurnCluster}
+use Rattle.model.proofs.History.Chain.{element_at}
 use Rattle.model.proofs.Members.{Has, Has-filter, Has-map}
 use Rattle.model.proofs.Resolvers.Requests.{take_suc}
 use Rattle.endings.specs.Work.{is_done, AllFinished}
@@ -22,7 +23,7 @@ use Rattle.endings.specs.EventsLeft.{offers_left, is_unfinished, finishes_left, 
 use Rattle.endings.proofs.Orders.{both_true, one_world}
 use Rattle.endings.proofs.EventsLeft.{left_work, left_done, left_finish, left_count, answers_counted}
 use Rattle.turn_world.specs.Events.{event_of, fault_of}
-use Rattle.turn_world.specs.Kept.{IsKept, AreRequestsKept, records_of, requests_of}
+use Rattle.turn_world.specs.Kept.{IsKept, records_of}
 use Rattle.turn_world.specs.KeptRequests.{HasNumbersOf}
 use Rattle.turn_world.specs.Ending.{HasFinishedAll, offers_missing}
 use Rattle.turn_world.specs.Steps.{HasCarriedOut, HasStopped, told_by, told_refusal}
@@ -34,7 +35,7 @@ use Rattle.turn_world.specs.declared.refusal.Refusal.{Refusal}
 use Rattle.turn_world.specs.declared.stopped.Stopped.{Stopped}
 use Rattle.turn_world.proofs.EventRuns.{none_carried_out}
 use Rattle.turn_world.proofs.EventsLeft.{AreWith, with_one, has_length}
-use Rattle.turn_world.proofs.OfferedRows.{own_request, record_at, requests_at}
+use Rattle.turn_world.proofs.RowNumbers.{HasRecordNumbers, sent_numbers}
 
 -- ---- the record of a row
 
@@ -42,21 +43,7 @@ use Rattle.turn_world.proofs.OfferedRows.{own_request, record_at, requests_at}
 pub rows_are : (config : Config) (rows : List KeptRecord) (w : World) (now : TurnCluster) → w.history ≡ records_of rows → (record { config = config; world = w }) ≡ now → length now.world.history ≡ length rows
 rows_are config rows w now is view = ap (λ (t : TurnCluster). length t.world.history) (sym view) ∙ ap length is ∙ length-map rows (λ (row : KeptRecord). row.rec.known)
 
--- a request that was sent has the numbers of its record
-sent_numbers : (config : Config) (w : World) (rec : Record) → ((sent_request config w 0 rec).proxy ≡ rec.proxy) × ((sent_request config w 0 rec).version ≡ rec.version)
-unfolding request_back_to
-sent_numbers config w rec = (refl, refl)
-
--- the first request that is kept of a row has the numbers of its record
-first_request : (config : Config) (w : World) (rows : List KeptRecord) (row : ℕ) (one : KeptRecord) (q : Request) (resolvers : List ResolverView) (proxies : List ProxyView) (last : ℕ) → w.history ≡ records_of rows → IsKept config w resolvers proxies (requests_of rows) last → AreRequestsKept w.judged_counts rows → slice_get rows row ≡ Some one → slice_get one.kept.requests.items 0 ≡ Some q → (q.proxy ≡ one.rec.known.proxy) × (q.version ≡ one.rec.known.version)
-first_request config w rows row one q resolvers proxies last is keeps all at at_q =
-    let there : 0 < config.resolvers = omega (arith, keeps.parts.limits.resolvers.0) in
-    let at_sent : slice_get one.sent.known 0 ≡ Some (sent_request config w 0 one.rec.known) = ap (λ (qs : List Request). slice_get qs 0) (requests_at config w rows row one is keeps.parts.requests_are at) ∙ own_request config w one.rec.known 0 there in
-    let kept : HasNumbersOf (sent_request config w 0 one.rec.known) q = ((all row one at).each 0 (sent_request config w 0 one.rec.known) q (omega (arith, there, keeps.parts.sound.judged_counts)) at_sent at_q).numbers in
-    let numbers = sent_numbers config w one.rec.known in
-    (kept.proxy ∙ numbers.0, kept.version ∙ numbers.1)
-
--- the record of a row, by the first request that is kept of it
+-- the record of a row, by the numbers of the request for it
 pub record KnownRow (now : TurnCluster) (row : ℕ) (q : Request) : Type 0 where
   pub rec : Record
   pub at : slice_get now.world.history row ≡ Some rec
@@ -64,20 +51,28 @@ pub record KnownRow (now : TurnCluster) (row : ℕ) (q : Request) : Type 0 where
   pub version : q.version ≡ rec.version
   pub there : q.proxy < now.config.proxies
 
-pub known_row : (config : Config) (w : World) (rows : List KeptRecord) (now : TurnCluster) (row : ℕ) (one : KeptRecord) (q : Request) (resolvers : List ResolverView) (proxies : List ProxyView) (last : ℕ) → w.history ≡ records_of rows → (record { config = config; world = w }) ≡ now → IsKept config w resolvers proxies (requests_of rows) last → AreRequestsKept w.judged_counts rows → slice_get rows row ≡ Some one → slice_get one.kept.requests.items 0 ≡ Some q → KnownRow now row q
-known_row config w rows now row one q resolvers proxies last is view keeps all at at_q = subst (λ (t : TurnCluster). KnownRow t row q) view (record {
-  rec = one.rec.known;
-  at = at_rec;
-  proxy = first.0;
-  version = first.1;
-  there = omega (arith, first.0, (keeps.parts.sound.sequencer.history row one.rec.known at_rec).proxy);
-})
+pub known_row : (config : Config) (w : World) (now : TurnCluster) (row : ℕ) (q : Request) (resolvers : List ResolverView) (proxies : List ProxyView) (requests : List (List Request)) (last : ℕ) → (record { config = config; world = w }) ≡ now → IsKept config w resolvers proxies requests last → row < length now.world.history
+    → ((rec : Record) → slice_get now.world.history row ≡ Some rec → HasNumbersOf (sent_request now.config now.world 0 rec) q) → KnownRow now row q
+known_row config w now row q resolvers proxies requests last view keeps within numbers =
+    record {
+      rec = found.0;
+      at = found.1;
+      proxy = own.proxy ∙ sent.proxy;
+      version = own.version ∙ sent.version;
+      there = omega (arith, own.proxy ∙ sent.proxy, (history row found.0 found.1).proxy);
+    }
   where
-    at_rec : slice_get w.history row ≡ Some one.rec.known
-    at_rec = ap (λ (h : List Record). slice_get h row) is ∙ record_at rows row one at
+    found : (rec : Record) × (slice_get now.world.history row ≡ Some rec)
+    found = element_at now.world.history row within
 
-    first : (q.proxy ≡ one.rec.known.proxy) × (q.version ≡ one.rec.known.version)
-    first = first_request config w rows row one q resolvers proxies last is keeps all at at_q
+    own : HasNumbersOf (sent_request now.config now.world 0 found.0) q
+    own = numbers found.0 found.1
+
+    sent : HasRecordNumbers found.0 (slice_index now.world.received found.0.row) 0 (sent_request now.config now.world 0 found.0)
+    sent = sent_numbers now.config now.world 0 found.0
+
+    history : IsHistory now.config now.world.history
+    history = subst (λ (t : TurnCluster). IsHistory t.config t.world.history) view keeps.parts.sound.sequencer.history
 
 -- the version of a proxy is the one that it has finished
 pub version_is : (config : Config) (w : World) (now : TurnCluster) (p : ℕ) (v : ProxyView) (resolvers : List ResolverView) (proxies : List ProxyView) (requests : List (List Request)) (last : ℕ) → (record { config = config; world = w }) ≡ now → IsKept config w resolvers proxies requests last → slice_get proxies p ≡ Some v → v.version ≡ finished_version now.world p

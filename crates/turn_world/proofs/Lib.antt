@@ -1,14 +1,14 @@
 pub mod AllKept
-pub mod DroppedParts
+pub mod DroppedRequests
 pub mod EventRuns
 pub mod EventsLeft
 pub mod FinishedRecords
 pub mod FinishesLeft
-pub mod KeptNumbers
 pub mod MadeOfNothing
 pub mod MovedRanges
 pub mod NewParts
 pub mod OfferedParts
 pub mod OfferedRows
 pub mod RepeatedRequests
+pub mod RowNumbers
 pub mod SequencedBatches

@@ -51,10 +51,6 @@ fill_next [] k x (suc i) is = absurd (omega (arith, is))
 fill_next (y ∷ ys) k x zero is = absurd (omega (arith, is))
 fill_next (y ∷ ys) k x (suc i) is = ap (λ zs. y ∷ zs) (fill_next ys k x i (omega (arith, is)))
 
-pub leave_next : (xs : List (Option Reply)) (k : ℕ) → xs ++ replicate (suc k) None ≡ (xs ++ None ∷ []) ++ replicate k None
-leave_next [] k = refl
-leave_next (y ∷ ys) k = ap (λ zs. y ∷ zs) (leave_next ys k)
-
 pub kept_new : (config : Config) (w : World) (resolvers : List ResolverView) (proxies : List ProxyView) (requests : List (List Request)) → IsConfig config → w ≡ initial_world config → requests ≡ [] → AreNewResolvers config config.resolvers resolvers → AreNewProxies config config.proxies proxies → IsKept config w resolvers proxies requests 0
 kept_new config w resolvers proxies requests limits world none of_resolvers of_proxies =
     record {
@@ -82,21 +78,4 @@ kept_next resolvers p version i v reply replies filled within at kept is put =
     suc_is = omega arith
 
     one : kept_replies_at (take i resolvers) p version ++ Some reply ∷ [] ≡ kept_replies_at (take (i + 1) resolvers) p version
-    one = ap (λ (found : Option Reply). kept_replies_at (take i resolvers) p version ++ found ∷ []) (sym kept) ∙ sym (map-append (λ (u : ResolverView). kept_reply u p version) (take i resolvers) (v ∷ [])) ∙ ap (λ (vs : List ResolverView). kept_replies_at vs p version) (take_suc resolvers i v at ∙ ap (λ (n : ℕ). take n resolvers) suc_is)
-
--- one place more: empty, since the resolver keeps no reply
-pub none_next : (resolvers : List ResolverView) (p version i : ℕ) (v : ResolverView) (replies : List (Option Reply)) → i < length resolvers → slice_get resolvers i ≡ Some v → kept_reply v p version ≡ None → replies ≡ kept_replies_at (take i resolvers) p version ++ replicate (length resolvers - i) None
-    → replies ≡ kept_replies_at (take (i + 1) resolvers) p version ++ replicate (length resolvers - (i + 1)) None
-none_next resolvers p version i v replies within at kept is =
-    is ∙ ap (λ (n : ℕ). kept_replies_at (take i resolvers) p version ++ replicate n None) count
-    ∙ leave_next (kept_replies_at (take i resolvers) p version) (length resolvers - (i + 1))
-    ∙ ap (λ (rs : List (Option Reply)). rs ++ replicate (length resolvers - (i + 1)) None) one
-  where
-    count : length resolvers - i ≡ suc (length resolvers - (i + 1))
-    count = omega (arith, within)
-
-    suc_is : suc i ≡ i + 1
-    suc_is = omega arith
-
-    one : kept_replies_at (take i resolvers) p version ++ None ∷ [] ≡ kept_replies_at (take (i + 1) resolvers) p version
     one = ap (λ (found : Option Reply). kept_replies_at (take i resolvers) p version ++ found ∷ []) (sym kept) ∙ sym (map-append (λ (u : ResolverView). kept_reply u p version) (take i resolvers) (v ∷ [])) ∙ ap (λ (vs : List ResolverView). kept_replies_at vs p version) (take_suc resolvers i v at ∙ ap (λ (n : ℕ). take n resolvers) suc_is)

@@ -1,8 +1,7 @@
 -- A resolver gets the request for a row.
-use Rattle.std.proofs.Common.{◌≡◌, refl, sym, ap, ◌∙◌, subst, ℕ, zero, suc, ◌+◌, ◌<◌, ◌≤◌, List, [], ◌∷◌, ◌++◌, map, take, length, slice_get, slice_index, slice_set, Bool, true, false, nat_le, Option, Some, None, option_map, arith}
-use Rattle.std.specs.Prelude.{Ok, Err, IsOk}
+use Rattle.std.proofs.Common.{◌≡◌, refl, sym, ap, ◌∙◌, subst, ℕ, zero, suc, ◌+◌, ◌<◌, ◌≤◌, List, [], ◌∷◌, ◌++◌, map, take, length, slice_get, slice_index, slice_set, Bool, true, false, nat_le, Option, Some, None, option_map, ◌⊎◌, inl, inr, arith}
+use Rattle.std.specs.Prelude.{Ok, Err, IsOk, unwrap_or}
 use Rattle.std.proofs.lemmas.Bool.{le-leb, leb-true, leb-false}
-use Rattle.std.proofs.lemmas.List.{length-map}
 use Rattle.std.proofs.lemmas.Option.{slice_get-map}
 use Rattle.system_keys.specs.AsSpecified.{IsFaultOf}
 use Rattle.model.specs.Configs.{Config}
@@ -23,19 +22,21 @@ use Rattle.model.proofs.Resolvers.Judged.{others_change_nothing}
 use Rattle.model.proofs.Resolvers.Growth.{up_to_last_request}
 use Rattle.model.proofs.Resolvers.Offers.{judged_in_turn}
 use Rattle.model.proofs.Verdicts.Places.{slice_get-take_back}
-use Rattle.model.proofs.Journals.ReplyRows.{slice_get-each_below, length-each_below}
+use Rattle.model.proofs.Journals.ReplyRows.{slice_get-each_below}
+use Rattle.request_builder.specs.declared.header.RequestHeader.{RequestHeader}
 use Rattle.state_memory.specs.Answers.{fault_of as offer_fault}
 use Rattle.state_memory.specs.declared.refusal.Refusal.{Refusal as Offered}
 use Rattle.state_memory.specs.declared.refusal.Refusal.TheVariants as offer_refusals
 use Rattle.turn_world.specs.Events.{fault_of}
-use Rattle.turn_world.specs.KeptRequests.{IsKeptOf}
-use Rattle.turn_world.specs.Kept.{IsKept, AreRequestsKept, records_of, requests_of}
+use Rattle.turn_world.specs.KeptRequests.{HasNumbersOf, bare_request, kept_request}
+use Rattle.turn_world.specs.Kept.{IsKept, IsJudgedByAll, IsRowKept, AreRowsKept, records_of, requests_of}
 use Rattle.turn_world.specs.Parts.{HasJudgedAt}
 use Rattle.turn_world.specs.Steps.{passed_on, IsOfTheWorld}
 use Rattle.turn_world.specs.declared.refusal.Refusal.{Refusal}
 use Rattle.turn_world.specs.declared.refusal.Refusal.TheVariants as refusals
 use Rattle.turn_world.specs.declared.kept_record.KeptRecord.{KeptRecord}
 use Rattle.turn_world.proofs.RepeatedRequests.{repeats_alike, never_judged}
+use Rattle.turn_world.proofs.RowNumbers.{own_numbers}
 
 no_element : {X : Type 0} (xs : List X) (i : ℕ) → length xs ≤ i → slice_get xs i ≡ None
 no_element [] i past = refl
@@ -141,12 +142,33 @@ judged_at config w row r rec at passed =
     slice_get-map (sent_request config w r) (take (slice_index w.judged_counts r) w.history) row
     ∙ ap (option_map (sent_request config w r)) (slice_get-take_back w.history (slice_index w.judged_counts r) row rec passed at)
 
-pub known : (config : Config) (w : World) (rows : List KeptRecord) (row r : ℕ) (one : KeptRecord) (v : ResolverView) (q : Request) (resolvers : List ResolverView) (proxies : List ProxyView) (last : ℕ) → w.history ≡ records_of rows → IsKept config w resolvers proxies (requests_of rows) last → AreRequestsKept w.judged_counts rows → r < config.resolvers → slice_get rows row ≡ Some one → slice_get one.kept.requests.items r ≡ Some q → slice_get resolvers r ≡ Some v → Known config w row r one v q resolvers proxies (requests_of rows)
-known config w rows row r one v q resolvers proxies last is keeps all there at at_q at_v =
+-- the request that is offered for a row: the one that was sent, or, once its resolver has judged the
+-- row, one with its numbers
+record IsOfferedFor (judged_count row : ℕ) (sent q : Request) : Type 0 where
+  numbers : HasNumbersOf sent q
+  whole : judged_count ≤ row → q ≡ sent
+
+offered_for : (counts : List ℕ) (row r : ℕ) (one : KeptRecord) (sent : Request) (header : RequestHeader) → r < length counts → IsRowKept counts row one → slice_get one.sent.known r ≡ Some sent → HasNumbersOf sent (bare_request header) → IsOfferedFor (slice_index counts r) row sent (kept_request one.kept.requests.items r header)
+offered_for counts row r one sent header within is at numbers = by is.requests
+  where
+    by : (one.kept.requests.items ≡ one.sent.known) ⊎ ((one.kept.requests.items ≡ []) × IsJudgedByAll counts row) → IsOfferedFor (slice_index counts r) row sent (kept_request one.kept.requests.items r header)
+    by (inl whole) =
+        let q_is : kept_request one.kept.requests.items r header ≡ sent = ap (λ (qs : List Request). kept_request qs r header) whole ∙ ap (λ (found : Option Request). unwrap_or found (bare_request header)) at in
+        record { numbers = subst (HasNumbersOf sent) (sym q_is) (own_numbers sent); whole = λ left. q_is }
+    by (inr (none, judged)) =
+        let q_is : kept_request one.kept.requests.items r header ≡ bare_request header = ap (λ (qs : List Request). kept_request qs r header) none in
+        record { numbers = subst (HasNumbersOf sent) (sym q_is) numbers; whole = λ left. absurd (omega (arith, left, judged r within)) }
+
+known : (config : Config) (w : World) (rows : List KeptRecord) (row r : ℕ) (one : KeptRecord) (v : ResolverView) (header : RequestHeader) (resolvers : List ResolverView) (proxies : List ProxyView) (last : ℕ) → w.history ≡ records_of rows → IsKept config w resolvers proxies (requests_of rows) last → AreRowsKept w.judged_counts rows → r < config.resolvers → slice_get rows row ≡ Some one → HasNumbersOf (sent_request config w r one.rec.known) (bare_request header) → slice_get resolvers r ≡ Some v
+    → Known config w row r one v (kept_request one.kept.requests.items r header) resolvers proxies (requests_of rows)
+known config w rows row r one v header resolvers proxies last is keeps all there at numbers at_v =
     by (nat_le (slice_index w.judged_counts r) row) refl
   where
     rec : Record
     rec = one.rec.known
+
+    q : Request
+    q = kept_request one.kept.requests.items r header
 
     at_rec : slice_get w.history row ≡ Some rec
     at_rec = ap (λ (h : List Record). slice_get h row) is ∙ record_at rows row one at
@@ -157,8 +179,8 @@ known config w rows row r one v q resolvers proxies last is keeps all there at a
     at_sent : slice_get one.sent.known r ≡ Some (sent_request config w r rec)
     at_sent = ap (λ (qs : List Request). slice_get qs r) (requests_at config w rows row one is keeps.parts.requests_are at) ∙ own_request config w rec r there
 
-    kept : IsKeptOf (slice_index w.judged_counts r) row (sent_request config w r rec) q
-    kept = (all row one at).each r (sent_request config w r rec) q (omega (arith, there, keeps.parts.sound.judged_counts)) at_sent at_q
+    offered : IsOfferedFor (slice_index w.judged_counts r) row (sent_request config w r rec) q
+    offered = offered_for w.judged_counts row r one (sent_request config w r rec) header (omega (arith, there, keeps.parts.sound.judged_counts)) (all row one at) at_sent numbers
 
     answers : StandsForRequests v (judged_requests config w r) × (world_answer (answer_to v.number (length v.proxies) v.written.window (judged_requests config w r) (sent_request config w r rec)) ≡ Some (handle_event config w (Offer row r)).answer)
     answers = answers_as_world config w row r rec v resolvers proxies (requests_of rows) is_offered
@@ -166,12 +188,12 @@ known config w rows row r one v q resolvers proxies last is keeps all there at a
     by : (t : Bool) → nat_le (slice_index w.judged_counts r) row ≡ t → Known config w row r one v q resolvers proxies (requests_of rows)
     by true e =
         let left : slice_index w.judged_counts r ≤ row = leb-true (slice_index w.judged_counts r) row e in
-        let q_is = kept.whole left in
+        let q_is = offered.whole left in
         record { is_offered = is_offered; stands = answers.0; told = ap (λ (s : Request). world_answer (answer_to v.number (length v.proxies) v.written.window (judged_requests config w r) s)) q_is ∙ answers.1; judged = λ reply told. (q_is, left) }
     by false e =
         let passed : row < slice_index w.judged_counts r = leb-false (slice_index w.judged_counts r) row e in
         let up_to : (sent_request config w r rec).version ≤ last_request_version (judged_requests config w r) = up_to_last_request r config.proxies (judged_requests config w r) row (sent_request config w r rec) (judged_in_turn config w r keeps.parts.limits.step.0 keeps.parts.sound there) (judged_at config w row r rec at_rec passed) in
-        let alike = repeats_alike v.number (length v.proxies) v.written.window (judged_requests config w r) (sent_request config w r rec) q kept.numbers up_to in
+        let alike = repeats_alike v.number (length v.proxies) v.written.window (judged_requests config w r) (sent_request config w r rec) q offered.numbers up_to in
         record {
           is_offered = is_offered;
           stands = answers.0;
@@ -179,5 +201,12 @@ known config w rows row r one v q resolvers proxies last is keeps all there at a
           judged = λ reply told. absurd (never_judged v.number (length v.proxies) v.written.window (judged_requests config w r) (sent_request config w r rec) reply up_to (sym alike ∙ told));
         }
 
-pub request_count : (config : Config) (w : World) (rows : List KeptRecord) (row : ℕ) (one : KeptRecord) (resolvers : List ResolverView) (proxies : List ProxyView) (last : ℕ) → w.history ≡ records_of rows → IsKept config w resolvers proxies (requests_of rows) last → slice_get rows row ≡ Some one → length one.sent.known ≡ config.resolvers
-request_count config w rows row one resolvers proxies last is keeps at = ap length (requests_at config w rows row one is keeps.parts.requests_are at) ∙ length-map (each_below config.resolvers) (λ (r : ℕ). sent_request config w r one.rec.known) ∙ length-each_below config.resolvers
+-- the same of what the cluster sees, where the resolver answered the request that stands for the one that was sent
+pub known_offer : (config : Config) (w : World) (rows : List KeptRecord) (now : TurnCluster) (row r : ℕ) (one : KeptRecord) (kept : List Request) (header : RequestHeader) (v : ResolverView) (resolvers : List ResolverView) (proxies : List ProxyView) (last : ℕ) → (record { config = config; world = w }) ≡ now → w.history ≡ records_of rows → IsKept config w resolvers proxies (requests_of rows) last → AreRowsKept w.judged_counts rows → r < config.resolvers → slice_get rows row ≡ Some one
+    → ((rec : Record) → slice_get now.world.history row ≡ Some rec → HasNumbersOf (sent_request now.config now.world r rec) (bare_request header)) → kept ≡ one.kept.requests.items → slice_get resolvers r ≡ Some v → Known config w row r one v (kept_request kept r header) resolvers proxies (requests_of rows)
+known_offer config w rows now row r one kept header v resolvers proxies last view is keeps all there at numbers kept_is at_v =
+    subst (λ (qs : List Request). Known config w row r one v (kept_request qs r header) resolvers proxies (requests_of rows)) (sym kept_is)
+    (known config w rows row r one v header resolvers proxies last is keeps all there at (own one.rec.known (ap (λ (h : List Record). slice_get h row) is ∙ record_at rows row one at)) at_v)
+  where
+    own : (rec : Record) → slice_get w.history row ≡ Some rec → HasNumbersOf (sent_request config w r rec) (bare_request header)
+    own = subst (λ (t : TurnCluster). (rec : Record) → slice_get t.world.history row ≡ Some rec → HasNumbersOf (sent_request t.config t.world r rec) (bare_request header)) (sym view) numbers

@@ -1,6 +1,8 @@
 -- What is kept of the requests that a proxy sent.
-use Rattle.std.specs.Prelude.{◌≡◌, ℕ, ◌≤◌, ◌<◌, List, [], length, slice_get, slice_index, Some}
+use Rattle.std.specs.Prelude.{◌≡◌, ℕ, List, [], slice_get, unwrap_or}
 use Rattle.model.specs.Requests.{Request}
+use Rattle.request_builder.specs.Requests.{request_of}
+use Rattle.request_builder.specs.declared.header.RequestHeader.{RequestHeader}
 
 -- the request has the numbers of the one that was sent
 pub record HasNumbersOf (sent q : Request) : Type 0 where
@@ -11,28 +13,10 @@ pub record HasNumbersOf (sent q : Request) : Type 0 where
   pub version : q.version ≡ sent.version
   pub last_received : q.last_received ≡ sent.last_received
 
--- these numbers are all that is left of the request: it has no parts and no marks
-pub record HasNumbersAlone (sent q : Request) : Type 0 where
-  pub numbers : HasNumbersOf sent q
-  pub share : q.share ≡ []
-  pub states : q.states ≡ []
+-- the request of these numbers alone: it has no parts and no marks
+abbrev pub bare_request : RequestHeader → Request
+bare_request header = request_of header [] []
 
--- and so of each of these requests
-pub record HaveNumbersAlone (sent kept : List Request) : Type 0 where
-  pub count : length kept ≡ length sent
-  pub each :
-      (r : ℕ) (s q : Request) → slice_get sent r ≡ Some s → slice_get kept r ≡ Some q
-      → HasNumbersAlone s q
-
--- What is kept of a request for this row, by how many rows its resolver has judged: its numbers, and
--- the whole of it until the row is judged.
-pub record IsKeptOf (judged_count row : ℕ) (sent q : Request) : Type 0 where
-  pub numbers : HasNumbersOf sent q
-  pub whole : judged_count ≤ row → q ≡ sent
-
--- this is kept of the requests for this row
-pub record AreKeptOf (judged_counts : List ℕ) (row : ℕ) (sent kept : List Request) : Type 0 where
-  pub count : length kept ≡ length sent
-  pub each :
-      (r : ℕ) (s q : Request) → r < length judged_counts → slice_get sent r ≡ Some s
-      → slice_get kept r ≡ Some q → IsKeptOf (slice_index judged_counts r) row s q
+-- the request to this resolver, of those that are kept; where there is none, that of these numbers alone
+abbrev pub kept_request : (kept : List Request) (resolver : ℕ) → RequestHeader → Request
+kept_request kept resolver header = unwrap_or (slice_get kept resolver) (bare_request header)

@@ -20,7 +20,7 @@ pub enum Answer {
 }
 
 impl Answer {
-    /// Returns a deep copy. Fails only with `OutOfMemory`.
+    /// Returns an equal copy. Fails only with `OutOfMemory`.
     pub fn copy(&self) -> Result<Answer, OutOfMemory>
         ensures { IfOk result (λ copy. copy ≡ self.now) }
     {

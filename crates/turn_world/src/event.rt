@@ -31,7 +31,7 @@ pub enum Event {
 }
 
 impl Event {
-    /// Returns a deep copy. Fails only with `OutOfMemory`.
+    /// Returns an equal copy. Fails only with `OutOfMemory`.
     pub fn copy(&self) -> Result<Event, OutOfMemory>
         ensures { IfOk result (λ copy. copy ≡ self.now) }
     {

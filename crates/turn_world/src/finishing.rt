@@ -1,4 +1,4 @@
-//! A proxy finishes its earliest record.
+//! Finishing a proxy's earliest record by the replies that the resolvers keep.
 
 ghost use Rattle.std.specs.Prelude.{◌≡◌, length, slice_get, IfOk, OnErr};
 ghost use Rattle.turn_world.specs.Parts.{kept_replies_at, missing_of};
@@ -11,7 +11,7 @@ use std::alloc::Global;
 use system_keys::OutOfMemory;
 
 /// The first resolver that has not judged the row, by how many rows each has judged.
-pub(crate) fn first_missing(judged_counts: &[usize], row: RowNumber) -> Option<usize>
+pub(crate) fn first_not_judged(judged_counts: &[usize], row: RowNumber) -> Option<usize>
     ensures { result ≡ slice_get (missing_of row judged_counts.now) 0 }
 {
     for resolver in 0..judged_counts.len() {
@@ -37,11 +37,12 @@ pub(crate) fn kept_replies_at(
 {
     let mut replies = Replies::new(alloc, config)?;
     for resolver in resolvers {
-        if let Some(reply) = resolver.kept_reply(proxy, version) {
-            let Ok(()) = replies.put(reply.copy()?) else {
-                unreachable!();
-            };
-        }
+        let Some(reply) = resolver.kept_reply(proxy, version) else {
+            unreachable!();
+        };
+        let Ok(()) = replies.put(reply.copy()?) else {
+            unreachable!();
+        };
     }
     Ok(replies)
 }

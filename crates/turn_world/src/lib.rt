@@ -3,11 +3,11 @@
 #![tactic(auto)]
 
 mod answer;
-mod ending;
 mod event;
 mod finishing;
 mod kept_record;
 mod offering;
+mod offers_left;
 mod past_record;
 mod refusal;
 mod sent_requests;

@@ -1,4 +1,4 @@
-//! A batch gets its record, and its proxy begins it.
+//! Beginning a sequenced record at its proxy.
 
 ghost use Rattle.std.specs.Prelude.{◌≡◌, IfOk, OnErr};
 ghost use Rattle.turn_world.specs.Parts.{MayBeginAt, IsBegunAt};

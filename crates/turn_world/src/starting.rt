@@ -1,4 +1,4 @@
-//! The parts of a cluster before its first event.
+//! The proxies and resolvers of a cluster before its first event.
 
 ghost use Rattle.std.specs.Prelude.{◌≡◌, IfOk, replicate};
 ghost use Rattle.turn_world.specs.Parts.{AreNewResolvers, AreNewProxies};
@@ -33,7 +33,7 @@ pub(crate) fn new_proxies(alloc: Global, config: &Config) -> Result<Vec<Proxy>, 
 
 /// `count` zeros.
 #[tactic(auto, using(std::proofs::lemmas::List::replicate_more))]
-pub(crate) fn zeros(alloc: Global, count: usize) -> Result<Vec<usize>, OutOfMemory>
+pub(crate) fn list_of_zeros(alloc: Global, count: usize) -> Result<Vec<usize>, OutOfMemory>
     ensures { IfOk result (λ made. made.items ≡ replicate count 0) }
 {
     let mut made = Vec::with_capacity(alloc, count)?;

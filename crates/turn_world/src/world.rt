@@ -1,4 +1,4 @@
-//! A cluster without threads.
+//! A cluster without threads: it carries out events one by one or in a run, or all that are left.
 
 ghost use Rattle.std.specs.Prelude.{◌≡◌, [], ◌∷◌, ◌++◌, ◌+◌, ◌<◌, ◌≤◌, map, vec_len};
 ghost use Rattle.std.specs.Vec.{vec_capacity};
@@ -12,30 +12,32 @@ ghost use Rattle.model.specs.World.{Sequence, MoveRange, Offer as OfferOf, Finis
 ghost use Rattle.model.specs.World.{initial_world};
 ghost use Rattle.model.specs.World.{IsSound, next_record};
 ghost use Rattle.model.specs.Serial.{IsSerial};
+ghost use Rattle.model.specs.Offers.{sent_request};
 ghost use Rattle.model.specs.Turns.{after_event, answer_to_event, IsResolverOf, IsProxyOf};
 ghost use Rattle.turn_world.specs.Events.{event_of};
 ghost use Rattle.endings.specs.EventsLeft.{events_left, finishes_left, is_unfinished};
+ghost use Rattle.turn_world.specs.KeptRequests.{HasNumbersOf, bare_request};
 ghost use Rattle.turn_world.specs.Steps.{AnswersEvent, MaySequence, HasCarriedOut, HasStopped};
 ghost use Rattle.turn_world.specs.Ending.{HasFinishedAll};
 ghost use Rattle.turn_world.specs.declared.answer.Answer.{Answer as TheAnswer};
 ghost use Rattle.turn_world.specs.declared.refusal.Refusal.{Refusal as TheRefusal};
 
 use crate::answer::Answer;
-use crate::ending::push_offers;
 use crate::event::Event;
-use crate::finishing::{finish_at, first_missing, kept_replies_at};
-use crate::kept_record::{KeptRecord, drop_parts_at};
-use crate::offering::{cluster_refusal, offer_at};
+use crate::finishing::{finish_at, first_not_judged, kept_replies_at};
+use crate::kept_record::{KeptRecord, drop_requests_at};
+use crate::offering::{cluster_refusal, offer_kept};
+use crate::offers_left::push_offers;
 use crate::past_record::PastRecord;
 use crate::refusal::Refusal;
 use crate::sent_requests::{PastRequests, SentRequests};
 use crate::sequencing::begin_at;
-use crate::starting::{new_proxies, new_resolvers, zeros};
+use crate::starting::{list_of_zeros, new_proxies, new_resolvers};
 use crate::stopped::Stopped;
 use model::{Config, Move, ProxyNumber, ResolverNumber, RowNumber, VERSION_LIMIT, Version};
 use mutation::Batch;
 use proxy_state::{OwnedMoves, Proxy};
-use request_builder::Record;
+use request_builder::{Record, RequestHeader};
 use state_memory::{Answer as OfferAnswer, Resolver};
 use std::alloc::Global;
 use std::marker::Model;
@@ -56,7 +58,7 @@ pub struct TurnWorld {
 
 impl Model for TurnWorld {
     ghost use Rattle.model.specs.Turns.{TurnCluster};
-    ghost use Rattle.turn_world.specs.Kept.{world_of, requests_of, AreRequestsKept, IsKept};
+    ghost use Rattle.turn_world.specs.Kept.{world_of, requests_of, AreRowsKept, IsKept};
 
     ghost Value = { TurnCluster };
 
@@ -68,7 +70,7 @@ impl Model for TurnWorld {
     ghost invariant = { λ t. IsKept t.config
         (world_of t.rows.items t.moves t.judged_counts.items t.finished.items)
         t.resolvers.items t.proxies.items (requests_of t.rows.items) t.last
-        × AreRequestsKept t.judged_counts.items t.rows.items };
+        × AreRowsKept t.judged_counts.items t.rows.items };
 }
 
 impl TurnWorld {
@@ -81,8 +83,8 @@ impl TurnWorld {
             config: *config,
             rows: Vec::new(alloc),
             moves: OwnedMoves::new(alloc, config)?,
-            judged_counts: zeros(alloc, config.resolvers())?,
-            finished: zeros(alloc, config.proxies())?,
+            judged_counts: list_of_zeros(alloc, config.resolvers())?,
+            finished: list_of_zeros(alloc, config.proxies())?,
             resolvers: new_resolvers(alloc, config)?,
             proxies: new_proxies(alloc, config)?,
             last: 0,
@@ -216,7 +218,7 @@ impl TurnWorld {
         ensures err { OnErr result (0 < length (finishes_left self.now.world)) }
     {
         for row in 0..self.rows.len() {
-            let Some(proxy) = self.unfinished_at(row) else {
+            let Some(proxy) = self.unfinished_proxy_at(row) else {
                 continue;
             };
             events.push(Event::Finish { proxy })?;
@@ -225,19 +227,38 @@ impl TurnWorld {
     }
 
     /// The proxy of the record in this row, unless it has finished the record.
-    fn unfinished_at(&self, row: RowNumber) -> Option<ProxyNumber>
+    fn unfinished_proxy_at(&self, row: RowNumber) -> Option<ProxyNumber>
         requires { row < length self.now.world.history }
         ensures { (rec : TheRecord) → slice_get self.now.world.history row ≡ Some rec
             → MatchOption result (IsFalse (is_unfinished self.now.world rec))
             (λ proxy. (proxy ≡ rec.proxy) × IsTrue (is_unfinished self.now.world rec)) }
     {
-        let requests = self.rows[row].kept.requests.as_slice();
-        let request = &requests[0];
-        let proxy = request.proxy();
-        if self.proxies[proxy].version() < request.version() {
+        let header = self.header_at(row, 0);
+        let proxy = header.proxy;
+        if self.proxies[proxy].version() < header.version {
             Some(proxy)
         } else {
             None
+        }
+    }
+
+    /// The numbers of the request to this resolver for the record in this row. Versions lie one step
+    /// apart.
+    fn header_at(&self, row: RowNumber, resolver: ResolverNumber) -> RequestHeader
+        requires { row < length self.now.world.history }
+        ensures { (rec : TheRecord) → slice_get self.now.world.history row ≡ Some rec
+            → HasNumbersOf (sent_request self.now.config self.now.world resolver rec)
+            (bare_request result) }
+    {
+        let one = &self.rows[row];
+        let previous = row as Version * self.config.step();
+        RequestHeader {
+            resolver,
+            proxy: one.proxy,
+            row,
+            previous,
+            version: previous + self.config.step(),
+            last_received: one.received,
         }
     }
 
@@ -426,6 +447,7 @@ impl TurnWorld {
         };
         self.rows.push_reserved(KeptRecord {
             rec: PastRecord::of(rec),
+            proxy,
             received,
             sent: PastRequests::of(&kept),
             kept,
@@ -461,8 +483,10 @@ impl TurnWorld {
         if self.config.resolvers() <= resolver {
             return Err(Refusal::WrongResolver);
         }
+        let alloc: Global = *self.rows.allocator();
+        let header = self.header_at(row, resolver);
         let requests = self.rows[row].kept.requests.as_slice();
-        match offer_at(&mut self.resolvers, resolver, &requests[resolver]) {
+        match offer_kept(alloc, &mut self.resolvers, resolver, requests, header) {
             Ok(OfferAnswer::Judged(reply)) => {
                 self.judged_counts[resolver] = row + 1;
                 Ok(Answer::Offered(OfferAnswer::Judged(reply)))
@@ -486,7 +510,7 @@ impl TurnWorld {
         };
         let row = rec.row();
         let version = rec.version();
-        if let Some(resolver) = first_missing(self.judged_counts.as_slice(), row) {
+        if let Some(resolver) = first_not_judged(self.judged_counts.as_slice(), row) {
             return Err(Refusal::MissingReply { resolver });
         }
         let alloc: Global = *self.rows.allocator();
@@ -495,7 +519,7 @@ impl TurnWorld {
         let count = self.finished[proxy] + 1;
         let finished = finish_at(&mut self.proxies, proxy, replies)?;
         self.finished[proxy] = count;
-        drop_parts_at(&mut self.rows, row, alloc);
+        drop_requests_at(&mut self.rows, row, alloc);
         Ok(Answer::Finished(finished))
     }
 }

@@ -7,7 +7,7 @@ use Rattle.system_keys.specs.declared.change.Change.{Change}
 use Rattle.model.specs.Configs.{Config, version_limit}
 use Rattle.model.specs.Journal.{VerdictSource, history_verdicts}
 use Rattle.model.specs.Metadata.{Entries}
-use Rattle.model.specs.Outcomes.{outcome, outcome_by, joined_verdict, is_refused, outcomes_from, outcomes_after}
+use Rattle.model.specs.Outcomes.{outcome, outcome_of_verdict, joined_verdict, is_refused, outcomes_from, outcomes_after}
 use Rattle.model.specs.Records.{Record, last_version, records_of_proxy}
 use Rattle.model.specs.Shares.{each_below}
 use Rattle.model.specs.Stamps.{AdmittedTransaction}
@@ -41,7 +41,9 @@ one_in_order entries least n place (change ∷ changes) later below ordered =
     and_from (nat_le least n) (are_in_order n (tagged_from entries n (suc place) changes ++ later)) (le-leb least n below)
     (let reached : n ≤ n = omega arith in one_in_order entries n n (suc place) changes later reached ordered)
 
-all_in_order : (config : Config) (verdict_by : VerdictSource) (locked : Bool) (rec : Record) (entries : Entries) (least n : ℕ) (ts : List StampedTransaction) → least ≤ n → are_in_order least (tagged_all entries ts (outcomes_from config verdict_by locked rec n ts)) ≡ true
+all_in_order : (config : Config) (verdict_by : VerdictSource) (locked : Bool) (rec : Record) (entries : Entries) (least n : ℕ)
+    (ts : List StampedTransaction)
+    → least ≤ n → are_in_order least (tagged_all entries ts (outcomes_from config verdict_by locked rec n ts)) ≡ true
 unfolding outcome
 all_in_order config verdict_by locked rec entries least n [] below = refl
 all_in_order config verdict_by locked rec entries least n (t ∷ ts) below =
@@ -50,7 +52,7 @@ all_in_order config verdict_by locked rec entries least n (t ∷ ts) below =
     rest : List Tagged
     rest = tagged_all entries ts (outcomes_from config verdict_by locked rec (suc n) ts)
 
-    by : (v : Verdict) (refused : Bool) → are_in_order n rest ≡ true → are_in_order least (tagged_one entries t (outcome_by v refused rec.version n) ++ rest) ≡ true
+    by : (v : Verdict) (refused : Bool) → are_in_order n rest ≡ true → are_in_order least (tagged_one entries t (outcome_of_verdict v refused rec.version n) ++ rest) ≡ true
     by Conflict refused ordered = in_order_below least n rest below ordered
     by TooOld refused ordered = in_order_below least n rest below ordered
     by Committed true ordered = in_order_below least n rest below ordered

@@ -11,13 +11,12 @@ use Rattle.model.specs.declared.outcome.Outcome.TheVariants as outcomes
 use Rattle.model.specs.declared.outcome.PrivateCopy.{PrivateCopy}
 use Rattle.model.specs.declared.outcome.Tagged.{Tagged}
 use Rattle.model.specs.declared.reply.Reply.{Reply}
-use Rattle.model.specs.declared.unseen.UnseenRow.{UnseenRow}
 use Rattle.model.specs.World.{Event, Sequence, MoveRange, Offer, Finish, Answer}
 use Rattle.model.specs.World.{Sequenced, Moved, Judged, Again, FinishedBatch, Refused}
 use Rattle.model.specs.World as world
 use Rattle.scripts.specs.Lines.{line, quoted, spaced, list_text, tag_text, tags_text}
-use Rattle.cluster_lines.specs.Names.{outcome_name, verdict_name}
-use Rattle.cluster_lines.specs.Refusals.{number_or_none, refused_text}
+use Rattle.scripts.specs.Lines.{number_or_none, refused_text}
+use Rattle.scripts.specs.Names.{outcome_name, unseen_version, verdict_name}
 use Rattle.turn_world.specs.Events.{refusal_number, refusal_name}
 use Rattle.turn_world.specs.declared.refusal.Refusal.{Refusal}
 use Rattle.turn_world.specs.declared.refusal.Refusal.TheVariants as refusals
@@ -35,9 +34,6 @@ abbrev pub move_line : Version → List ℕ
 move_line date = line (codes "move date " ++ decimal date)
 
 -- ---- a resolver gets a request
-
-abbrev pub unseen_version : UnseenRow → List ℕ
-unseen_version row = decimal row.version
 
 -- the row of the record, and the resolver that gets the request for it
 abbrev pub offered_text : RowNumber → ResolverNumber → List ℕ

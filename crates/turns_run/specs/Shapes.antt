@@ -54,8 +54,8 @@ or_form None shape next = next
 or_form (Some value) shape next = shape value
 
 -- the name of the field says which event it is
-abbrev pub named_event : Data → Option RawEvent
-named_event d =
+abbrev pub event_of_name : Data → Option RawEvent
+event_of_name d =
     or_form (get (codes "sequence") d) sequence_shape
     (or_form (get (codes "move") d) move_event_shape
     (or_form (get (codes "offer") d) offer_shape
@@ -63,7 +63,7 @@ named_event d =
 
 -- an object of one field: `{"sequence":..}`, `{"move":..}`, `{"offer":..}` or `{"finish":..}`
 abbrev pub event_shape : Data → Option RawEvent
-event_shape d = if has_fields 1 d then named_event d else None
+event_shape d = if has_fields 1 d then event_of_name d else None
 
 -- ---- the script
 

@@ -14,7 +14,7 @@ use crate::script::RawEvent;
 use crate::turns_fields::FromEvents;
 use json::Reader as TokenReader;
 use model::Config;
-use scripts::{Checked, Streamed, begin_array};
+use scripts::{Checked, Streamed, take_begin_array};
 use std::alloc::Global;
 use turn_world::{Event, TurnWorld};
 
@@ -37,7 +37,7 @@ impl FromEvents for CarriedOut {
         depth: usize,
         config: Option<Config>,
     ) -> Option<CarriedOut> {
-        if depth == 0 || !begin_array(reader) {
+        if depth == 0 || !take_begin_array(reader) {
             return None;
         }
         let mut text = String::new(alloc);

@@ -1,5 +1,4 @@
-//! Each event of a script is carried out, and its answer or its refusal is printed: which line that
-//! is, and the lines of a finish.
+//! Carrying out each event of a script, and printing the line of its answer or its refusal.
 
 ghost use Rattle.std.specs.Prelude.{◌≡◌, ◌++◌, [], IsSome, OnErr, OnOk};
 ghost use Rattle.std.specs.Prelude.{string_bytes, map, true};
@@ -13,12 +12,10 @@ ghost use Rattle.turns_run.specs.Lines.{refusal_line, refusal_value};
 ghost use Rattle.turns_run.specs.OrderOfMutations.{are_in_order, FitsFinish};
 
 use crate::lines::{print_move, print_offer, print_sequence};
-use crate::pieces::{push_number_and_name, push_numbered};
 use crate::transactions::print_transactions;
 use model::{Finished, ProxyNumber, Version};
-use pages::{Page, TextPage};
-use std::alloc::Global;
-use std::mem;
+use pages::Page;
+use scripts::{push_numbered, push_refused, take_page};
 use system_keys::{Items, OutOfMemory};
 use turn_world::{Answer, Event, OfferAnswer, Refusal, TurnWorld};
 
@@ -55,14 +52,13 @@ pub(crate) fn carry_out_event(
         ++ event_text given (handle_event before.config before.world given).answer) }
     ensures world { OnOk result (world.new ≡ after_event world.old (event_of event)) }
 {
-    let alloc: Global = *text.allocator();
-    let mut page = TextPage::of(mem::replace(text, String::new(alloc)));
+    let mut page = take_page(*text.allocator(), text);
     carry_out(event, world, &mut page)?;
     *text = page.into_text()?;
     Ok(())
 }
 
-/// Carries out the event, of which nothing is copied, and prints its lines, which takes no memory.
+/// Carries out the event, of which nothing is copied, and prints its lines, which cannot fail.
 /// Fails only with `OutOfMemory`; then nothing is printed, and the cluster is unchanged.
 pub fn carry_out<P: Page>(
     event: Event,
@@ -83,7 +79,7 @@ pub fn carry_out<P: Page>(
             Ok(())
         }
         Err(refusal) => {
-            check_numbered(&refusal)?;
+            check_has_number(&refusal)?;
             print_refusal(page, &refusal);
             Ok(())
         }
@@ -91,7 +87,7 @@ pub fn carry_out<P: Page>(
 }
 
 /// Whether the refusal has a number: all have one but `OutOfMemory`.
-fn check_numbered(refusal: &Refusal) -> Result<(), OutOfMemory>
+fn check_has_number(refusal: &Refusal) -> Result<(), OutOfMemory>
     ensures { OnOk result (IsSome (refusal_number refusal.now)) }
 {
     refusal.number().ok_or(OutOfMemory)?;
@@ -161,7 +157,7 @@ fn push_finish<P: Page>(page: &mut P, proxy: ProxyNumber, version: Version)
 pub fn print_refusal<P: Page>(page: &mut P, refusal: &Refusal)
     ensures { Prints P.has_printed page.old page.new (refusal_line refusal.now) }
 {
-    push_number_and_name(page, refusal.number(), refusal.name());
+    push_refused(page, refusal.number(), refusal.name());
     push_refusal_value(page, refusal);
     page.push("\n");
 }

@@ -1,4 +1,4 @@
-//! Events of a turns script, as their tokens come.
+//! Events of a turns script from its tokens.
 
 ghost use Rattle.std.specs.Prelude.{◌≡◌, ◌+◌, IfSome, Some, codes};
 ghost use Rattle.serde_json.specs.Data.{Data, member, no_members, object};
@@ -13,7 +13,7 @@ use crate::script::RawEvent;
 use cluster_scripts::GivenMove;
 use json::Reader as TokenReader;
 use mutation::Transaction;
-use scripts::{Fields, Streamed, take_into, take_object};
+use scripts::{Fields, Streamed, take_into_slot, take_object};
 use std::alloc::Global;
 use system_keys::Items;
 
@@ -138,8 +138,8 @@ impl Fields for SequenceFields {
         name: &str,
     ) -> Option<()> {
         match name {
-            "proxy" => take_into(&mut self.proxy, alloc, reader, depth),
-            "batch" => take_into(&mut self.batch, alloc, reader, depth),
+            "proxy" => take_into_slot(&mut self.proxy, alloc, reader, depth),
+            "batch" => take_into_slot(&mut self.batch, alloc, reader, depth),
             _ => None,
         }
     }
@@ -172,8 +172,8 @@ impl Fields for OfferFields {
         name: &str,
     ) -> Option<()> {
         match name {
-            "row" => take_into(&mut self.row, alloc, reader, depth),
-            "resolver" => take_into(&mut self.resolver, alloc, reader, depth),
+            "row" => take_into_slot(&mut self.row, alloc, reader, depth),
+            "resolver" => take_into_slot(&mut self.resolver, alloc, reader, depth),
             _ => None,
         }
     }
@@ -201,7 +201,7 @@ impl Fields for FinishFields {
         name: &str,
     ) -> Option<()> {
         match name {
-            "proxy" => take_into(&mut self.proxy, alloc, reader, depth),
+            "proxy" => take_into_slot(&mut self.proxy, alloc, reader, depth),
             _ => None,
         }
     }

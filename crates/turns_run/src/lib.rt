@@ -9,7 +9,6 @@ mod checks;
 mod event_lines;
 mod event_streams;
 mod lines;
-mod pieces;
 mod proxies;
 mod reading;
 mod run;

@@ -1,4 +1,4 @@
-//! Reading of turns scripts.
+//! Reading a turns script: by its tokens, else by its JSON value.
 
 ghost use Rattle.std.specs.Prelude.{◌≡◌, IfSome, Ok};
 ghost use Rattle.scripts.specs.ScriptFaults.{IsReadAs};

@@ -1,4 +1,5 @@
-//! Turns scripts: the events of a cluster without threads, and keys whose tags are asked.
+//! Turns scripts: events of a cluster without threads, and keys whose tags are asked; checked, or
+//! as they are written (`Raw`).
 
 ghost use Rattle.std.specs.Prelude.{◌≡◌, IfOk};
 
@@ -23,7 +24,7 @@ pub struct TurnsScript {
 }
 
 impl TurnsScript {
-    /// Returns a deep copy. Fails only with `OutOfMemory`.
+    /// Returns an equal copy. Fails only with `OutOfMemory`.
     pub fn copy(&self) -> Result<TurnsScript, OutOfMemory>
         ensures { IfOk result (λ copy. copy ≡ self.now) }
     {
@@ -74,7 +75,7 @@ pub enum RawEvent {
     },
 }
 
-/// A deep copy of the events.
+/// A copy of the events.
 fn copy_events(alloc: Global, events: &[Event]) -> Result<Items<Event>, OutOfMemory>
     ensures { IfOk result (λ copy. copy ≡ events.now) }
 {

@@ -1,10 +1,10 @@
-//! What is read of the values of a turns script.
+//! Events and the whole of a turns script from JSON values.
 
 ghost use Rattle.serde_json.specs.View.{view};
 ghost use Rattle.scripts.specs.ScriptFaults.{IsReadAs};
 ghost use Rattle.scripts.specs.Shapes.{or_bad_shape};
 ghost use Rattle.turns_run.specs.Shapes.{event_shape, finish_shape, move_event_shape};
-ghost use Rattle.turns_run.specs.Shapes.{named_event, offer_shape, script_shape};
+ghost use Rattle.turns_run.specs.Shapes.{event_of_name, offer_shape, script_shape};
 ghost use Rattle.turns_run.specs.Shapes.{sequence_shape};
 
 use crate::script::{RawEvent, RawTurns};
@@ -33,7 +33,7 @@ impl Shaped for RawEvent {
 
     fn from_value(alloc: Global, value: &Value) -> Result<RawEvent, ScriptFault> {
         if has_fields(value, 1) {
-            named_event(alloc, value)
+            event_of_name(alloc, value)
         } else {
             Err(ScriptFault::BadShape)
         }
@@ -41,8 +41,8 @@ impl Shaped for RawEvent {
 }
 
 // The event that the name of the field says.
-fn named_event(alloc: Global, value: &Value) -> Result<RawEvent, ScriptFault>
-    ensures { IsReadAs (λ found. found) result (or_bad_shape (named_event (view value.now))) }
+fn event_of_name(alloc: Global, value: &Value) -> Result<RawEvent, ScriptFault>
+    ensures { IsReadAs (λ found. found) result (or_bad_shape (event_of_name (view value.now))) }
 {
     if let Some(event) = value.get("sequence") {
         sequence_shape(alloc, event)

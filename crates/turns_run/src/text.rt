@@ -46,13 +46,13 @@ impl MadeOfTokens for TurnsText {
         let fields: TurnsFields<CarriedOut> = take_object(alloc, reader, depth)?;
         let config = fields.config()?;
         let (carried_out, ask) = (fields.events?, fields.ask?);
-        let text = end_text(alloc, &config, carried_out, ask.as_slice())?;
+        let text = end_turns_text(alloc, &config, carried_out, ask.as_slice())?;
         Some(TurnsText { text })
     }
 }
 
 /// The whole text, where a cluster with these numbers carried the events out.
-fn end_text(
+fn end_turns_text(
     alloc: Global,
     config: &Config,
     carried_out: CarriedOut,

@@ -8,10 +8,9 @@ ghost use Rattle.turns_run.specs.Lines.{outcome_numbers, private_text};
 ghost use Rattle.turns_run.specs.Lines.{outcome_text, transaction_line, transactions_text};
 ghost use Rattle.turns_run.specs.OrderOfMutations.{IsAfter, are_in_order};
 
-use crate::pieces::{push_numbered, push_quoted, push_tag, push_tags};
-use cluster_lines::outcome_name;
 use model::{Outcome, PrivateCopy, Tagged};
 use pages::Page;
+use scripts::{Word, push_list, push_numbered, push_quoted};
 
 /// Prints the outcome of each transaction of a batch, and after it the tags and the private copy of
 /// each of its mutations, which are in the order of their transactions: each is looked at once.
@@ -23,13 +22,13 @@ pub(crate) fn print_transactions<P: Page>(page: &mut P, tagged: &[Tagged], outco
     let mut number = 0;
     for outcome in outcomes {
         print_transaction(page, number, *outcome);
-        rest = print_first_mutations(page, number, rest);
+        rest = print_mutations_at_front(page, number, rest);
         number += 1;
     }
 }
 
 // Prints the mutations of this transaction, which come first, and returns those after them.
-fn print_first_mutations<'a, P: Page>(
+fn print_mutations_at_front<'a, P: Page>(
     page: &mut P,
     number: usize,
     tagged: &'a [Tagged],
@@ -65,7 +64,7 @@ fn print_transaction<P: Page>(page: &mut P, number: usize, outcome: Outcome)
 fn push_outcome<P: Page>(page: &mut P, outcome: Outcome)
     ensures { Prints P.has_printed page.old page.new (outcome_text outcome) }
 {
-    page.push(outcome_name(outcome));
+    outcome.push_to(page);
     push_outcome_numbers(page, outcome)
 }
 
@@ -89,34 +88,34 @@ fn push_outcome_numbers<P: Page>(page: &mut P, outcome: Outcome)
 fn print_mutation<P: Page>(page: &mut P, mutation: &Tagged)
     ensures { Prints P.has_printed page.old page.new (mutation_text mutation.now) }
 {
-    print_tags(page, mutation);
-    print_private(page, mutation)
+    print_mutation_tags(page, mutation);
+    print_private_copy(page, mutation)
 }
 
 /// Prints the tags of a mutation.
-fn print_tags<P: Page>(page: &mut P, mutation: &Tagged)
+fn print_mutation_tags<P: Page>(page: &mut P, mutation: &Tagged)
     ensures { Prints P.has_printed page.old page.new (mutation_line mutation.now) }
 {
     push_numbered(page, "mutation ", mutation.number as u64);
     push_numbered(page, " ", mutation.place as u64);
     page.push(" tags ");
-    push_tags(page, mutation.tags.as_slice());
+    push_list(page, mutation.tags.as_slice());
     page.push("\n");
 }
 
 /// Prints the private copy of a mutation, if it has one.
-fn print_private<P: Page>(page: &mut P, mutation: &Tagged)
+fn print_private_copy<P: Page>(page: &mut P, mutation: &Tagged)
     ensures { Prints P.has_printed page.old page.new
         (private_text mutation.now.number mutation.now.place mutation.now.private) }
 {
     match &mutation.private {
-        Some(copy) => print_copy(page, mutation.number, mutation.place, copy),
+        Some(copy) => print_copy_line(page, mutation.number, mutation.place, copy),
         None => {}
     }
 }
 
 /// Prints a private copy of a mutation: its key and its tag.
-fn print_copy<P: Page>(page: &mut P, number: usize, place: usize, copy: &PrivateCopy)
+fn print_copy_line<P: Page>(page: &mut P, number: usize, place: usize, copy: &PrivateCopy)
     ensures { Prints P.has_printed page.old page.new (copy_line number place copy.now) }
 {
     push_numbered(page, "private ", number as u64);
@@ -124,6 +123,6 @@ fn print_copy<P: Page>(page: &mut P, number: usize, place: usize, copy: &Private
     page.push(" ");
     push_quoted(page, copy.key.as_slice());
     page.push(" ");
-    push_tag(page, &copy.tag);
+    copy.tag.push_to(page);
     page.push("\n");
 }

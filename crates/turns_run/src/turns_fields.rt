@@ -1,4 +1,4 @@
-//! What is read of a turns script as its tokens come: its fields in any order.
+//! The fields of a turns script from its tokens, in any order, and what its events become.
 
 ghost use Rattle.std.specs.Prelude.{◌≡◌, List, IfSome, Some, None};
 ghost use Rattle.model.specs.Configs.{IsConfig};
@@ -11,7 +11,7 @@ ghost use Rattle.turns_run.specs.declared.script.RawEvent.{RawEvent as TheRawEve
 use crate::script::{RawEvent, RawTurns};
 use json::Reader as TokenReader;
 use model::Config;
-use scripts::{Fields, Streamed, take_into, take_object};
+use scripts::{Fields, Streamed, take_into_slot, take_object};
 use std::alloc::Global;
 use system_keys::{Bytes, Items};
 
@@ -129,12 +129,12 @@ impl<E: FromEvents> Fields for TurnsFields<E> {
         name: &str,
     ) -> Option<()> {
         match name {
-            "proxies" => take_into(&mut self.proxies, alloc, reader, depth),
-            "resolvers" => take_into(&mut self.resolvers, alloc, reader, depth),
-            "window" => take_into(&mut self.window, alloc, reader, depth),
-            "step" => take_into(&mut self.step, alloc, reader, depth),
+            "proxies" => take_into_slot(&mut self.proxies, alloc, reader, depth),
+            "resolvers" => take_into_slot(&mut self.resolvers, alloc, reader, depth),
+            "window" => take_into_slot(&mut self.window, alloc, reader, depth),
+            "step" => take_into_slot(&mut self.step, alloc, reader, depth),
             "events" => self.take_events(alloc, reader, depth),
-            "ask" => take_into(&mut self.ask, alloc, reader, depth),
+            "ask" => take_into_slot(&mut self.ask, alloc, reader, depth),
             _ => None,
         }
     }

@@ -120,7 +120,9 @@ missing_proxy number proxies window judged q answered = own (nat_eq q.resolver n
     own true is = known (nat_le proxies q.proxy) refl is
     own false is = absurd (cc)
 
-never_asked : (cells : Cells) (whose : Option ℕ) (p : ℕ) (begun : BegunView) (batch : List AdmittedTransaction) → p < cells.config.proxies → IsBegun cells.config begun → HoldsBatch p begun.row begun.records batch → IsAskAllRefusal cells.config whose begun.requests refusals.NoSuchProxy → ⊥
+never_asked : (cells : Cells) (whose : Option ℕ) (p : ℕ) (begun : BegunView) (batch : List AdmittedTransaction) → p < cells.config.proxies
+    → IsBegun cells.config begun → HoldsBatch p begun.row begun.records batch → IsAskAllRefusal cells.config whose begun.requests refusals.NoSuchProxy
+    → ⊥
 never_asked cells whose p begun batch there kept holds (inl (same, foreign)) = absurd (cc)
 never_asked cells whose p begun batch there kept holds (inr (taken, inl same)) = cc
 never_asked cells whose p begun batch there kept holds (inr (taken, inr asked)) =

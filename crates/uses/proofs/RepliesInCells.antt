@@ -140,7 +140,8 @@ records_of before between request noted one = by one.done
     by (inr first) = first.noted_records
 
 -- two replies of one resolver to the last of the same records
-same_reply : (config : Config) (noted again : NotedReplyView) (one : IsNotedReply config noted) (two : IsNotedReply config again) → again.records ≡ noted.records → again.reply.row ≡ noted.reply.row → again.reply.resolver ≡ noted.reply.resolver → again.reply ≡ noted.reply
+same_reply : (config : Config) (noted again : NotedReplyView) (one : IsNotedReply config noted) (two : IsNotedReply config again)
+    → again.records ≡ noted.records → again.reply.row ≡ noted.reply.row → again.reply.resolver ≡ noted.reply.resolver → again.reply ≡ noted.reply
 same_reply config noted again one two records row resolver =
     two.reply_is
     ∙ (λ i. reply_of config (history_verdicts config (records i)) (resolver i) (take (row i) (records i)) (rec i))

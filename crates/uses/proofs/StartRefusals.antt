@@ -25,7 +25,9 @@ pub by_two : (cells : Cells) (batch next_batch : List AdmittedTransaction) (refu
 by_two cells batch next_batch refused there is = ((λ few. absurd (omega (arith, few, there))), (λ many. is))
 
 -- the cluster has no second proxy, or an allocation failed
-pub no_proxy : (cells : Cells) (batch next_batch : List AdmittedTransaction) (number : ℕ) (refusal : Refusal) → number ≤ 1 → (cells.config.proxies ≤ number → refusal ≡ refusals.NoSuchProxy) × (number < cells.config.proxies → refusal ≡ refusals.OutOfMemory) → WasNotShownBy cells batch next_batch (ByCluster refusal)
+pub no_proxy : (cells : Cells) (batch next_batch : List AdmittedTransaction) (number : ℕ) (refusal : Refusal) → number ≤ 1
+    → (cells.config.proxies ≤ number → refusal ≡ refusals.NoSuchProxy) × (number < cells.config.proxies → refusal ≡ refusals.OutOfMemory)
+    → WasNotShownBy cells batch next_batch (ByCluster refusal)
 no_proxy cells batch next_batch number refusal within is =
     ((λ few. alone few (cases_order cells.config.proxies number)), (λ many. inl (out_of_memory refusal (is.1 (omega (arith, many, within))))))
   where
@@ -35,12 +37,16 @@ no_proxy cells batch next_batch number refusal within is =
     alone few (inr (inr more)) = inl (out_of_memory refusal (is.1 more))
 
 -- a ledger cannot have this number of rows, or an allocation for it failed
-pub no_ledger : (rows : ℕ) (config : Config) (batch next_batch : List AdmittedTransaction) (refusal : LedgerRefusal) → (1 ≤ rows → rows ≤ ledger_limit → refusal ≡ ledgers.OutOfMemory) × ((rows ≡ 0) ⊎ (ledger_limit < rows) → refusal ≡ ledgers.BadConfig) → WasNotShown rows config batch next_batch (ByLedger refusal)
+pub no_ledger : (rows : ℕ) (config : Config) (batch next_batch : List AdmittedTransaction) (refusal : LedgerRefusal)
+    → (1 ≤ rows → rows ≤ ledger_limit → refusal ≡ ledgers.OutOfMemory) × ((rows ≡ 0) ⊎ (ledger_limit < rows) → refusal ≡ ledgers.BadConfig)
+    → WasNotShown rows config batch next_batch (ByLedger refusal)
 no_ledger rows config batch next_batch refusal is =
     ((λ bad. ap (λ (r : LedgerRefusal). ByLedger r) (is.1 bad)), (λ good. inl (inl (ap (λ (r : LedgerRefusal). ByLedger r) (is.0 good.0 good.1)))))
 
 -- the ledger was made, and its cluster showed nothing
-pub no_cluster : (rows : ℕ) (config : Config) (batch next_batch : List AdmittedTransaction) (cells : Cells) (refused : Refused) → IsGoodCount rows → cells.config ≡ config → length cells.records ≡ rows → WasNotShownBy cells batch next_batch refused → WasNotShown rows config batch next_batch refused
+pub no_cluster : (rows : ℕ) (config : Config) (batch next_batch : List AdmittedTransaction) (cells : Cells) (refused : Refused) → IsGoodCount rows
+    → cells.config ≡ config → length cells.records ≡ rows → WasNotShownBy cells batch next_batch refused
+    → WasNotShown rows config batch next_batch refused
 no_cluster rows config batch next_batch cells refused good same count nothing =
     ((λ bad. not_both bad), (λ _. inr (cells, same, count, nothing)))
   where

@@ -51,10 +51,14 @@ nothing_done : (before after : TurnCluster) (results : List (Result Answer Refus
 unfolding world_after
 nothing_done before after results did = did.after_is
 
-one_after_another : AnswersContinue → WorldsContinue → (first second third : TurnCluster) (xs ys : List world.Event) (done more : List (Result Answer Refusal)) → HasCarriedOut first second xs done → HasCarriedOut second third ys more → HasCarriedOut first third (xs ++ ys) (done ++ more)
+one_after_another : AnswersContinue → WorldsContinue
+    → (first second third : TurnCluster) (xs ys : List world.Event) (done more : List (Result Answer Refusal)) → HasCarriedOut first second xs done
+    → HasCarriedOut second third ys more → HasCarriedOut first third (xs ++ ys) (done ++ more)
 one_after_another told worlds first second third xs ys done more one other =
     record {
-      results_are = map-append told_by done more ∙ (λ i. one.results_are i ++ next.results_are i) ∙ sym (map-append (λ (answer : world.Answer). Some answer) (answers first.config first.world xs) (answers first.config between ys)) ∙ ap (map (λ (answer : world.Answer). Some answer)) (sym (told first.config first.world xs ys));
+      results_are = map-append told_by done more ∙ (λ i. one.results_are i ++ next.results_are i) ∙ sym
+          (map-append (λ (answer : world.Answer). Some answer) (answers first.config first.world xs) (answers first.config between ys)) ∙ ap
+          (map (λ (answer : world.Answer). Some answer)) (sym (told first.config first.world xs ys));
       after_is = next.after_is ∙ ap (λ (w : World). record first { world = w }) (sym (worlds first.config first.world xs ys));
     }
   where
@@ -76,7 +80,8 @@ module _ (told : AnswersContinue) (worlds : WorldsContinue) (first between last 
   rest_is is = ap (map event_of) is ∙ sym (drop-map event_of n events)
 
   -- the rest was carried out
-  pub went_on : (more joined : List (Result Answer Refusal)) → rest ≡ drop n events → joined ≡ stopped.answers.items ++ more → HasStopped first between all stopped → HasCarriedOut between last (map event_of rest) more → HasCarriedOut first last all joined
+  pub went_on : (more joined : List (Result Answer Refusal)) → rest ≡ drop n events → joined ≡ stopped.answers.items ++ more
+      → HasStopped first between all stopped → HasCarriedOut between last (map event_of rest) more → HasCarriedOut first last all joined
   went_on more joined is both stop did =
       subst (HasCarriedOut first last all) (sym both)
       (subst (λ (es : List world.Event). HasCarriedOut first last es (stopped.answers.items ++ more)) (take-append-drop n all)

@@ -1,4 +1,4 @@
-//! All resolvers are asked for a record.
+//! Asking all resolvers for a record.
 
 ghost use Rattle.std.specs.Prelude.{◌≡◌, IfErr, IfOk};
 ghost use Rattle.locked_resolvers.specs.Asking.{IsAskAllRefusal};
@@ -35,7 +35,7 @@ pub fn ask_each<N: Naming, R: Wait>(
 /// replies are to that record.
 ///
 /// Fails as [`SharedProxy::resolve_all`] does, and returns the requests.
-pub fn resolve_again<N: Naming, R: Wait, A: Asking<N>>(
+pub fn resolve_with_one_retry<N: Naming, R: Wait, A: Asking<N>>(
     rt: &R,
     proxy: &SharedProxy<'_, N>,
     asking: &A,

@@ -16,7 +16,7 @@ use std::sync::Wait;
 /// stands a record with the batch, whichever phase had failed.
 ///
 /// Fails as the phase does that then fails.
-pub fn commit_or_go_on<N: Naming, R: Wait, A: Asking<N>>(
+pub fn commit_and_resume_once<N: Naming, R: Wait, A: Asking<N>>(
     rt: &R,
     proxy: &SharedProxy<'_, N>,
     sequencer: &Sequencer<'_, N>,

@@ -11,7 +11,7 @@ ghost use Rattle.uses.specs.Finishing.{RefusesFinish, RefusesOneFinish};
 use crate::refused::Refused;
 use agreed_ledger::{Naming, Sequencer, Ticket};
 use model::ProxyNumber;
-use model::laws::chain_law;
+use model::laws::version_chain_law;
 use mutation::Batch;
 use shared_cluster::{Asking, Begun, NotedFinished, ProxyGuard, Ready, SharedProxy};
 use std::sync::Wait;
@@ -33,8 +33,8 @@ pub fn commit_two<N: Naming, R: Wait, A: Asking<N>>(
     ensures refused { IfErr result (OneWasNotCommitted N.cells proxy.now batch next_batch) }
 {
     let (begun, next_begun) = begin_both(rt, proxy, sequencer, batch, next_batch)?;
-    let first = resolve_record(rt, proxy, asking, begun)?;
-    let second = resolve_record(rt, proxy, asking, next_begun)?;
+    let first = resolve_or_drop(rt, proxy, asking, begun)?;
+    let second = resolve_or_drop(rt, proxy, asking, next_begun)?;
     // (their contracts say what the type keeps of the replies)
     let (_row, _next_row) = (first.row(), second.row());
     let mut guard = proxy.lock(rt);
@@ -57,13 +57,13 @@ pub fn finish_two<N: Naming>(
         (RefusesOneFinish N.cells.config guard.old first second guard.new) }
 {
     // (its contract is the law that a proxy's record before is no later than the version before)
-    chain_law();
+    version_chain_law();
     // (its contract says what the type keeps of the proxy)
     let _number = guard.number();
-    let answer = finish_record(guard, first)?;
+    let answer = finish_or_drop(guard, first)?;
     // (and here, after a record more)
     let _version = guard.version();
-    let next_answer = finish_record(guard, second)?;
+    let next_answer = finish_or_drop(guard, second)?;
     Ok((answer, next_answer))
 }
 
@@ -126,7 +126,7 @@ fn sequence_or_drop<N: Naming, R: Wait>(
 }
 
 /// Asks all resolvers for a record that was begun. Refused requests are dropped.
-fn resolve_record<N: Naming, R: Wait, A: Asking<N>>(
+fn resolve_or_drop<N: Naming, R: Wait, A: Asking<N>>(
     rt: &R,
     proxy: &SharedProxy<'_, N>,
     asking: &A,
@@ -147,7 +147,7 @@ fn resolve_record<N: Naming, R: Wait, A: Asking<N>>(
 }
 
 /// Finishes a record. Refused replies are dropped.
-fn finish_record<N: Naming>(
+fn finish_or_drop<N: Naming>(
     guard: &mut ProxyGuard<'_, N>,
     ready: Ready<N>,
 ) -> Result<NotedFinished<N>, Refused>

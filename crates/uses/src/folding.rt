@@ -10,7 +10,7 @@ use system_keys::{Items, OutOfMemory, Tag};
 /// The tags of a key in the metadata that the journal gives, applied row by row. Fails only with
 /// `OutOfMemory`.
 #[tactic(auto, unfolding(model::specs::Metadata::metadata))]
-pub fn tags_after(
+pub fn tags_after_journal(
     alloc: Global,
     journal: &[JournalRow],
     key: &[u8],

@@ -13,13 +13,16 @@ mod running;
 mod sequencing;
 mod whole_cluster;
 
-pub use asking::{ask_each, resolve_again};
-pub use committing::commit_or_go_on;
+pub use asking::{ask_each, resolve_with_one_retry};
+pub use committing::commit_and_resume_once;
 pub use comparing::routings_of_two;
 pub use finishing::{commit_two, finish_two};
-pub use folding::tags_after;
+pub use folding::tags_after_journal;
 pub use refused::Refused;
 pub use resolving::{offer_and_look, offer_twice, resolve_and_look};
-pub use running::{at_one_version, metadata_after, metadata_at_end, numbers_of, run_on, step_of};
-pub use sequencing::{record_of, sequence_around_move, sequence_two};
+pub use running::{
+    config_of_cluster, metadata_after, metadata_at_end, metadata_if_same_version,
+    run_and_resume_once, step_of,
+};
+pub use sequencing::{record_of_ticket, sequence_around_move, sequence_two};
 pub use whole_cluster::{Shown, whole_cluster_from_nothing};

@@ -67,13 +67,13 @@ pub fn offer_twice<N: Naming>(
     ensures refused { IfErr result (RefusesOneOfTwo guard.old request guard.new) }
 {
     let copy = request.copy()?;
-    let noted = offer_request(guard, request)?;
-    let again = offer_request(guard, copy)?;
+    let noted = offer_or_drop(guard, request)?;
+    let again = offer_or_drop(guard, copy)?;
     Ok((noted, again))
 }
 
 /// Offers the request. A refused one is dropped.
-fn offer_request<N: Naming>(
+fn offer_or_drop<N: Naming>(
     guard: &mut ResolverGuard<'_, N>,
     request: Request<N>,
 ) -> Result<NotedReply<N>, Refusal>

@@ -1,4 +1,4 @@
-//! A cluster without threads carries out events, and its proxies are read.
+//! Carrying out events in a cluster without threads, and reading its proxies.
 
 ghost use Rattle.std.specs.Prelude.{◌≡◌, ◌+◌, ◌*◌, ◌<◌, ◌≤◌, ◌++◌, map, slice_get, Some};
 ghost use Rattle.std.specs.Prelude.{vec_capacity, vec_len, IfOk, IfSome, MatchOption, MatchResult};
@@ -12,7 +12,7 @@ ghost use Rattle.turn_world.specs.Events.{event_of};
 ghost use Rattle.turn_world.specs.Steps.{HasCarriedOut, HasStopped};
 ghost use Rattle.uses.specs.Running.{AreAtOneVersion, AreNotAtOneVersion};
 
-use model::laws::{chain_law, events_law};
+use model::laws::{events_append_law, version_chain_law};
 use model::{Config, ProxyNumber};
 use proxy_state::Metadata;
 use shared_cluster::{Answer, Event, Stopped, TurnRefusal, TurnWorld};
@@ -73,7 +73,7 @@ pub fn metadata_at_end(
 /// The metadata of two proxies at one version, which is the same. None if the cluster lacks one of
 /// the proxies, or if their versions differ.
 #[tactic(auto, using(crate::proofs::OneVersion::one_metadata))]
-pub fn at_one_version(
+pub fn metadata_if_same_version(
     cluster: &TurnWorld,
     first: usize,
     second: usize,
@@ -91,7 +91,7 @@ pub fn at_one_version(
 }
 
 /// The numbers of a cluster, which are within their limits.
-pub fn numbers_of(cluster: &TurnWorld) -> Config
+pub fn config_of_cluster(cluster: &TurnWorld) -> Config
     ensures value { result ≡ cluster.now.config }
     ensures limits { IsConfig result }
 {
@@ -107,7 +107,7 @@ pub fn step_of(cluster: &TurnWorld) -> u64
     ensures serial { IsSerial cluster.now.config cluster.now.world.history }
 {
     // (its contract is the law that the row gives the version)
-    chain_law();
+    version_chain_law();
     cluster.config().step()
 }
 
@@ -115,7 +115,7 @@ pub fn step_of(cluster: &TurnWorld) -> u64
 /// of both runs are those of one.
 ///
 /// If it stops again, or has no memory to go on, it returns what both runs have carried out.
-pub fn run_on(
+pub fn run_and_resume_once(
     cluster: &mut TurnWorld,
     alloc: Global,
     events: &[Event],
@@ -125,7 +125,7 @@ pub fn run_on(
         (λ stopped. HasStopped cluster.old cluster.new (map event_of events.now) stopped) }
 {
     // (its contract is the law that runs of events continue one another)
-    events_law();
+    events_append_law();
     let Stopped {
         carried_out,
         mut answers,

@@ -72,7 +72,7 @@ pub fn sequence_around_move<N: Naming>(
 }
 
 /// The record of a ticket, which follows those before it.
-pub fn record_of<'a, N: Naming>(ledger: &'a Ledger<N>, ticket: &Ticket<N>) -> &'a Record
+pub fn record_of_ticket<'a, N: Naming>(ledger: &'a Ledger<N>, ticket: &Ticket<N>) -> &'a Record
     ensures there { slice_get ticket.now.records ticket.now.row ≡ Some result.now }
     ensures follows { Follows N.cells.config (take ticket.now.row ticket.now.records) result.now }
 {

@@ -80,7 +80,7 @@ fn in_cluster<N: Naming, R: Wait>(
     let ledger = blank.named::<N>();
     let sequencer = Sequencer::new(alloc, &ledger)?;
     let resolvers = new_resolvers(alloc, &ledger)?;
-    let asking = asking_all(&ledger, resolvers.as_slice());
+    let asking = all_resolvers_of(&ledger, resolvers.as_slice());
     let one = SharedProxy::new(alloc, &ledger, 0)?;
     let other = SharedProxy::new(alloc, &ledger, 1)?;
     commit_on_both(rt, &sequencer, &asking, &one, &other, batch, next_batch)
@@ -119,7 +119,7 @@ fn new_resolver<'l, N: Naming>(
 }
 
 /// Takes all resolvers of the cluster, which are never refused.
-fn asking_all<'a, 'l, N: Naming>(
+fn all_resolvers_of<'a, 'l, N: Naming>(
     ledger: &Ledger<N>,
     resolvers: &'a [SharedResolver<'l, N>],
 ) -> AllResolvers<'a, 'l, N>
@@ -152,7 +152,7 @@ fn commit_on_both<N: Naming, R: Wait, A: Asking<N>>(
 {
     let (answer, mine) = commit_batch(rt, one, sequencer, asking, batch)?;
     let (next_answer, theirs) = commit_batch(rt, other, sequencer, asking, next_batch)?;
-    Ok(shown_by(&mine, &theirs, &answer, &next_answer)?)
+    Ok(show_both(&mine, &theirs, &answer, &next_answer)?)
 }
 
 /// Commits a batch. What a failed commit returns is dropped.
@@ -173,7 +173,7 @@ fn commit_batch<'a, N: Naming, R: Wait, A: Asking<N>>(
 }
 
 /// Copies of what two proxies and their answers show. Fails only with `OutOfMemory`.
-fn shown_by<N: Naming>(
+fn show_both<N: Naming>(
     one: &ProxyGuard<'_, N>,
     other: &ProxyGuard<'_, N>,
     answer: &NotedFinished<N>,

@@ -18,8 +18,8 @@ use Rattle.inboxes.specs.Sending.{AreSent, ChangesEnd, IsSent, IsSentTo, with_go
 use Rattle.inboxes.specs.MessageViews.{close_view, request_view}
 use Rattle.inboxes.proofs.Sent.{to_proxy}
 use Rattle.workers.specs.Asking.{AreAllSent, AreRequestsSent, Gives, HasBeenSent, HasClosed, IsRequestSent}
-use Rattle.workers.specs.declared.answer.WorkerAnswer.{WorkerAnswer}
-use Rattle.workers.specs.declared.answer.WorkerAnswer.TheVariants as answers
+use Rattle.workers.specs.declared.worker_answer.WorkerAnswer.{WorkerAnswer}
+use Rattle.workers.specs.declared.worker_answer.WorkerAnswer.TheVariants as answers
 
 pub take_next : {X : Type 0} (xs : List X) (k : ℕ) (x : X) → slice_get xs k ≡ Some x → take (k + 1) xs ≡ take k xs ++ x ∷ []
 take_next [] k x at = absurd (cc)

@@ -11,8 +11,8 @@ use Rattle.locked_resolvers.specs.NotedReplies.{NotedReplyView}
 use Rattle.locked_resolvers.specs.Resolvers.{HasOffered, HasJudged, HasRepeated, IsLockedResolver, IsNotEarly, IsOfferRefusal, LockedResolverView, after_refusal}
 use Rattle.locked_resolvers.specs.declared.refusal.Refusal.{Refusal}
 use Rattle.locked_resolvers.specs.declared.refusal.Refusal.TheVariants as refusals
-use Rattle.workers.specs.declared.answer.WorkerAnswer.{WorkerAnswer}
-use Rattle.workers.specs.declared.answer.WorkerAnswer.TheVariants as answers
+use Rattle.workers.specs.declared.worker_answer.WorkerAnswer.{WorkerAnswer}
+use Rattle.workers.specs.declared.worker_answer.WorkerAnswer.TheVariants as answers
 use Rattle.workers.specs.Desks.{ClosesByCause, DeskView, HasLetGo, HasRow, IsClosing, IsNoneDue, IsSettled, KeepsServing, OnlyFails, Serves, has_failed, next_row}
 use Rattle.workers.specs.Refusing.{IsAnswerOf, IsClosedWith, IsSameOrClosed, IsToldOf, IsToldRefusal, told_by}
 

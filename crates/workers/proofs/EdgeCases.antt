@@ -2,7 +2,7 @@
 use Rattle.std.proofs.Common.{◌≡◌, refl, sym, ap, ◌∙◌, subst, ℕ, zero, suc, ◌<◌, ◌≤◌, ◌⊎◌, inl, inr, List, [], ◌∷◌, arith}
 use Rattle.std.proofs.lemmas.Option.{same_Some}
 use Rattle.inboxes.specs.declared.views.MessageView.{MessageView}
-use Rattle.inboxes.specs.declared.views.Kind.TheVariants as kinds
+use Rattle.inboxes.specs.declared.views.MessageKind.TheVariants as kinds
 use Rattle.inboxes.specs.MessageViews.{close_view, end_view, request_view}
 use Rattle.workers.specs.Edges.{ACloseWasIgnored, ACloseWasObeyed, ARowWasDropped, ATurnThatDidNotCome, AWorkerThatClosedItself, AWorkerThatServedAll, AWorkerThatWantedMemory, AWorkerThatWasCutOff, AnEndIsMissing, two_asked, two_ends}
 use Rattle.workers.specs.Workers.{HasClose, HasRequest, IsAsked, IsRequestOf}

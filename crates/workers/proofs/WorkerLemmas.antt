@@ -7,7 +7,7 @@ use Rattle.model.proofs.History.Growth.{push_cases}
 use Rattle.agreed_ledger.specs.Cells.{ColumnView}
 use Rattle.inboxes.specs.Ends.{WorkerPassView}
 use Rattle.inboxes.specs.declared.views.MessageView.{MessageView}
-use Rattle.inboxes.specs.declared.views.Kind.TheVariants as kinds
+use Rattle.inboxes.specs.declared.views.MessageKind.TheVariants as kinds
 use Rattle.inboxes.specs.Sending.{ends_in}
 use Rattle.workers.specs.Desks.{DeskView, IsEmptyIfClosed, IsSettled, KeepsServing, Serves, has_failed, new_desk}
 use Rattle.workers.specs.Workers.{EndedView, HasCause, HasClose, HasRequest, HasTakenMore, IsAsked, IsEnded, IsRequestOf, IsWorkerOf, ServesAsked, StaysFailed, TakesOne, WorkerView}

@@ -9,8 +9,8 @@ use Rattle.inboxes.specs.MessageViews.{close_view, request_view}
 use Rattle.locked_resolvers.specs.NotedReplies.{NotedReplyView, IsReplyToRequest}
 use Rattle.locked_resolvers.specs.Requests.{RequestView}
 use Rattle.locked_resolvers.specs.declared.refusal.Refusal.{Refusal}
-use Rattle.workers.specs.declared.answer.WorkerAnswer.{WorkerAnswer}
-use Rattle.workers.specs.declared.answer.WorkerAnswer.TheVariants as answers
+use Rattle.workers.specs.declared.worker_answer.WorkerAnswer.{WorkerAnswer}
+use Rattle.workers.specs.declared.worker_answer.WorkerAnswer.TheVariants as answers
 
 -- the request was sent to its resolver, as one of the proxy whose ends these are
 abbrev pub IsRequestSent : Request → (before after : ProxyView) → Type 0

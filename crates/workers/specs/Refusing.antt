@@ -8,8 +8,8 @@ use Rattle.locked_resolvers.specs.Resolvers.{IsOfferRefusal, closed_resolver}
 use Rattle.locked_resolvers.specs.NotedReplies.{NotedReplyView}
 use Rattle.locked_resolvers.specs.declared.refusal.Refusal.{Refusal}
 use Rattle.locked_resolvers.specs.declared.refusal.Refusal.TheVariants as refusals
-use Rattle.workers.specs.declared.answer.WorkerAnswer.{WorkerAnswer}
-use Rattle.workers.specs.declared.answer.WorkerAnswer.TheVariants as answers
+use Rattle.workers.specs.declared.worker_answer.WorkerAnswer.{WorkerAnswer}
+use Rattle.workers.specs.declared.worker_answer.WorkerAnswer.TheVariants as answers
 
 -- what an answer tells: the refusal, or None, that there is a reply
 abbrev pub told_by : {N : Type 0} → WorkerAnswer N → Option Refusal

@@ -5,7 +5,7 @@ use Rattle.facts.specs.Stretches.{end_of}
 use Rattle.model.specs.Numbers.{ResolverNumber, RowNumber}
 use Rattle.agreed_ledger.specs.Cells.{ColumnView}
 use Rattle.inboxes.specs.declared.views.MessageView.{MessageView}
-use Rattle.inboxes.specs.declared.views.Kind.TheVariants as kinds
+use Rattle.inboxes.specs.declared.views.MessageKind.TheVariants as kinds
 use Rattle.inboxes.specs.Ends.{WorkerPassView}
 use Rattle.inboxes.specs.Sending.{ends_in}
 use Rattle.workers.specs.Desks.{DeskView, IsEmptyIfClosed, IsSettled, Serves, has_failed, new_desk}

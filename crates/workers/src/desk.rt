@@ -1,4 +1,5 @@
-//! The requests that a worker took, and how it serves them.
+//! What a worker keeps of the requests that it took: it offers those that are due, holds others
+//! back, and refuses.
 
 ghost use Rattle.std.specs.Prelude.{◌≡◌, ◌≢◌, ◌<◌, ◌≤◌, ◌⊎◌, ℕ, length, slice_get, Some, IsFalse};
 ghost use Rattle.std.specs.Prelude.{[], true, IsTrue, MatchOption};
@@ -15,11 +16,11 @@ ghost use Rattle.locked_resolvers.specs.Resolvers.{closed_resolver};
 ghost use Rattle.locked_resolvers.specs.declared.refusal.Refusal.TheVariants as refusals;
 ghost use Rattle.crossbeam_channel.specs.declared.err.SendError.TheVariants as sends;
 
-use crate::answer::{RefusedRequest, WorkerAnswer};
 use crate::gate::{Gate, Place};
 use crate::pending_request::PendingRequest;
-use crate::refusing::{refused_as_closed, refused_by_offer};
+use crate::refusing::{refuse_as_closed, refuse_by_offer};
 use crate::told::{Told, tell};
+use crate::worker_answer::{RefusedRequest, WorkerAnswer};
 use agreed_ledger::{Column, Naming};
 use crossbeam_channel::{SendError, Sender};
 use locked_resolvers::{Refusal, Request, ResolverGuard};
@@ -98,7 +99,7 @@ impl<N: Naming> Desk<N> {
             let _told = self.refuse(rt, guard, pending);
             return;
         }
-        let _told = self.hold(rt, pending);
+        let _told = self.hold_back(rt, pending);
         self.offer_due(rt, guard, gate);
     }
 
@@ -114,7 +115,7 @@ impl<N: Naming> Desk<N> {
     {
         guard.close();
         self.closed = true;
-        self.let_go(rt, guard);
+        self.refuse_held_requests(rt, guard);
     }
 
     /// Ends the serving. If requests are still held back, closes the resolver under the guard, and
@@ -127,11 +128,12 @@ impl<N: Naming> Desk<N> {
             return;
         }
         guard.close();
-        self.let_go(rt, guard);
+        self.refuse_held_requests(rt, guard);
     }
 
-    /// Answers all requests that are held back that the resolver is closed, as the guard shows.
-    fn let_go<R: Wait>(&mut self, rt: &R, guard: &ResolverGuard<'_, N>)
+    /// Answers every held-back request with `Closed`. The guard shows that the resolver is
+    /// closed.
+    fn refuse_held_requests<R: Wait>(&mut self, rt: &R, guard: &ResolverGuard<'_, N>)
         requires { IsTrue guard.now.closed }
         ensures { HasLetGo self.old self.new }
     {
@@ -168,12 +170,12 @@ impl<N: Naming> Desk<N> {
         ensures wants { OnlyWantsMemory self.old self.new }
     {
         let (told, sent) = tell(rt, reply, answer);
-        self.mark_if_unsent(sent);
+        self.note_if_memory_refused(sent);
         told
     }
 
     /// Takes up how the sending of an answer ended: nothing changes unless memory was refused.
-    fn mark_if_unsent(&mut self, sent: Result<(), SendError<WorkerAnswer<N>>>)
+    fn note_if_memory_refused(&mut self, sent: Result<(), SendError<WorkerAnswer<N>>>)
         ensures fails { OnlyFails self.old self.new }
         ensures closed { self.new.closed ≡ self.old.closed }
         ensures memory { (answer : _) → sent ≡ Err (sends.OutOfMemory answer)
@@ -205,13 +207,13 @@ impl<N: Naming> Desk<N> {
         self.tell(
             rt,
             reply,
-            WorkerAnswer::Refused(refused_as_closed(guard, request)),
+            WorkerAnswer::Refused(refuse_as_closed(guard, request)),
         )
     }
 
     /// Appends the request to those that are held back. If the allocation fails, answers it with
     /// `OutOfMemory`, and returns what was told.
-    fn hold<R: Wait>(&mut self, rt: &R, pending: PendingRequest<N>) -> Option<Told>
+    fn hold_back<R: Wait>(&mut self, rt: &R, pending: PendingRequest<N>) -> Option<Told>
         ensures keeps { KeepsServing self.old self.new }
         ensures closed { self.new.closed ≡ self.old.closed }
         ensures held { IsFalse (has_failed self.new) → HasRow self.new.held pending.plain.row }
@@ -230,9 +232,9 @@ impl<N: Naming> Desk<N> {
         Some(told)
     }
 
-    /// Offers each request whose turn has come, until there is none. None is left over where an
-    /// allocation failed either: what comes next is what the resolver has judged, not only what the
-    /// worker's column has. If the worker is closed then, so is the resolver.
+    /// Offers each request whose turn has come, until there is none. It goes by the rows that the
+    /// resolver has judged, so an allocation that fails for the worker's column leaves no such
+    /// request over. If the worker is closed then, so is the resolver.
     fn offer_due<R: Wait, G: Gate>(&mut self, rt: &R, guard: &mut ResolverGuard<'_, N>, gate: &G)
         requires { self.old.column.resolver ≡ guard.old.memory.number }
         ensures keeps { KeepsServing self.old self.new }
@@ -242,11 +244,11 @@ impl<N: Naming> Desk<N> {
         ensures reached { HasReached guard.new self.new }
         ensures closed { IsTrue self.new.closed → IsTrue guard.new.closed }
     {
-        self.catch_up(guard.column());
+        self.catch_up_column(guard.column());
         while let Some(place) = self.due(self.next_row(guard)) {
-            let _told = self.judge_at(rt, guard, gate, place);
+            let _told = self.offer_at_place(rt, guard, gate, place);
         }
-        self.let_go_if_closed(rt, guard);
+        self.refuse_held_if_closed(rt, guard);
     }
 
     /// The row after all that the worker's column has or the resolver has judged.
@@ -270,7 +272,7 @@ impl<N: Naming> Desk<N> {
 
     /// Enters the gate, offers the request at this place to the resolver, and answers it. Returns what
     /// was told.
-    fn judge_at<R: Wait, G: Gate>(
+    fn offer_at_place<R: Wait, G: Gate>(
         &mut self,
         rt: &R,
         guard: &mut ResolverGuard<'_, N>,
@@ -321,8 +323,8 @@ impl<N: Naming> Desk<N> {
         self.tell(rt, reply, answer)
     }
 
-    /// Offers the request to the resolver. Returns the answer: the reply, or why there is none. If that
-    /// closes the worker, so it does the resolver.
+    /// Offers the request to the resolver. Returns the answer: the reply, or why there is none.
+    /// If that closes the worker, it closes the resolver too.
     fn offer_to_resolver(
         &mut self,
         guard: &mut ResolverGuard<'_, N>,
@@ -343,22 +345,22 @@ impl<N: Naming> Desk<N> {
         let _plain = request.plain();
         match guard.offer(request) {
             Ok(noted) => {
-                self.catch_up(guard.column());
+                self.catch_up_column(guard.column());
                 WorkerAnswer::Replied(noted)
             }
             Err(refused) => {
                 // (by their types the resolver's records and the request's are of one ledger)
                 guard.records().agree(refused.request.records());
-                self.catch_up(guard.column());
-                self.fail(refused.refusal, refused.request.row());
-                self.close_with(guard);
-                WorkerAnswer::Refused(refused_by_offer(guard, refused))
+                self.catch_up_column(guard.column());
+                self.note_refusal(refused.refusal, refused.request.row());
+                self.close_resolver_if_closed(guard);
+                WorkerAnswer::Refused(refuse_by_offer(guard, refused))
             }
         }
     }
 
     /// Appends what the resolver's column has from this one's end on.
-    fn catch_up(&mut self, other: &Column<N>)
+    fn catch_up_column(&mut self, other: &Column<N>)
         requires own { self.old.column.resolver ≡ other.now.resolver }
         requires first { other.now.rows.first ≡ 0 }
         ensures keeps { KeepsServing self.old self.new }
@@ -377,7 +379,7 @@ impl<N: Naming> Desk<N> {
     /// Takes up a refused offer of a request of this row. `OutOfMemory` is an allocation that failed,
     /// and with `GivenUp` nothing changes, since the row was judged before. Any other refusal closes the
     /// worker; it is `Closed` or `CellTaken`.
-    fn fail(&mut self, refusal: Refusal, row: RowNumber)
+    fn note_refusal(&mut self, refusal: Refusal, row: RowNumber)
         ensures fails { OnlyFails self.old self.new }
         ensures served { IsFalse (has_failed self.new) → row < end_of self.new.column.rows }
         ensures memory { refusal ≡ refusals.OutOfMemory → self.new ≡ wanting_memory self.old }
@@ -395,7 +397,7 @@ impl<N: Naming> Desk<N> {
     }
 
     /// If the worker is closed, closes the resolver.
-    fn close_with(&self, guard: &mut ResolverGuard<'_, N>)
+    fn close_resolver_if_closed(&self, guard: &mut ResolverGuard<'_, N>)
         ensures { IsClosedWith self.now.closed guard.old guard.new }
     {
         if self.closed {
@@ -404,7 +406,7 @@ impl<N: Naming> Desk<N> {
     }
 
     /// If the worker is closed, closes the resolver, and answers so to all requests that are held back.
-    fn let_go_if_closed<R: Wait>(&mut self, rt: &R, guard: &mut ResolverGuard<'_, N>)
+    fn refuse_held_if_closed<R: Wait>(&mut self, rt: &R, guard: &mut ResolverGuard<'_, N>)
         ensures keeps { KeepsServing self.old self.new }
         ensures settled { IsSettled self.old → IsSettled self.new }
         ensures none_due { (next : RowNumber) → IsNoneDue self.old next → IsNoneDue self.new next }
@@ -418,6 +420,6 @@ impl<N: Naming> Desk<N> {
             return;
         }
         guard.close();
-        self.let_go(rt, guard);
+        self.refuse_held_requests(rt, guard);
     }
 }

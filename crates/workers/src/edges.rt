@@ -1,5 +1,5 @@
-//! Edge cases: values that meet a definition, and values that do not in one point. No code: each contract
-//! is a list of edge cases.
+//! Edge cases of an ended worker: values that meet its definition, and values that do not in one
+//! point. No code: each contract is a list of edge cases.
 
 ghost use Rattle.workers.specs.Edges.{ACloseWasIgnored, ACloseWasObeyed, ARowWasDropped};
 ghost use Rattle.workers.specs.Edges.{ATurnThatDidNotCome, AWorkerThatClosedItself};

@@ -1,4 +1,4 @@
-//! What a worker calls before its resolver judges.
+//! The trait of what a worker calls before its resolver judges, and the gate that does nothing.
 
 use model::{ResolverNumber, RowNumber};
 

@@ -6,20 +6,20 @@
 //! back until the batch before it is resolved (`Resolver.actor.cpp`, resolveBatch).
 #![tactic(auto)]
 
-mod answer;
+mod awaited_replies;
 mod desk;
 mod edges;
-mod ended;
+mod ended_worker;
 mod gate;
 mod pending_request;
 mod proxy_inboxes;
 mod refusing;
 mod told;
-mod waiting;
 mod worker;
+mod worker_answer;
 
 pub use edges::ended_worker_edges;
-pub use ended::EndedWorker;
+pub use ended_worker::EndedWorker;
 pub use gate::{Gate, Open, Place};
 pub use pending_request::PendingRequest;
 pub use proxy_inboxes::{ProxyInboxes, SendersGuard};

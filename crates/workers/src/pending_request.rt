@@ -2,7 +2,7 @@
 
 ghost use Rattle.std.specs.Prelude.{◌≡◌};
 
-use crate::answer::WorkerAnswer;
+use crate::worker_answer::WorkerAnswer;
 use agreed_ledger::Naming;
 use crossbeam_channel::Sender;
 use inboxes::Question;

@@ -9,8 +9,10 @@ ghost use Rattle.locked_resolvers.specs.Asking.{AreOfOneRecord, AreRepliesInOrde
 ghost use Rattle.locked_resolvers.specs.Asking.{IsAskAllRefusal, IsAskedRefusal};
 ghost use Rattle.workers.specs.Asking.{AreAllSent, AreRequestsSent, HasClosed};
 
+use crate::awaited_replies::{
+    PreparedRequests, await_replies, place_of_foreign_request, prepare_requests,
+};
 use crate::pending_request::PendingRequest;
-use crate::waiting::{Prepared, collect, other_at, prepare};
 use agreed_ledger::{Ledger, Naming};
 use inboxes::{Channels, EndedSender, Message, ProxySenders};
 use locked_resolvers::{Asking, NotedReply, Refusal, Request};
@@ -79,7 +81,7 @@ impl<N: Naming, M: Channels> ProxyInboxes<N, M> {
         ensures refused { IfErr result
             (IsAskAllRefusal N.cells.config (Some self.now) requests.now) }
     {
-        if let Some(_place) = other_at(self.proxy, requests) {
+        if let Some(_place) = place_of_foreign_request(self.proxy, requests) {
             return Err(Refusal::NotMine);
         }
         self.ask_own(rt, alloc, requests)
@@ -93,7 +95,7 @@ impl<N: Naming, M: Channels> ProxyInboxes<N, M> {
     {
         let proxy = self.proxy;
         let senders = self.lock.into_inner();
-        await_own(rt, proxy, &senders);
+        await_own_ends(rt, proxy, &senders);
         senders.into_ended(rt)
     }
 
@@ -122,16 +124,16 @@ impl<N: Naming, M: Channels> ProxyInboxes<N, M> {
     {
         // (reading it tells what the type keeps)
         let _proxy = self.proxy;
-        let Ok(prepared) = prepare(alloc, requests) else {
+        let Ok(prepared) = prepare_requests(alloc, requests) else {
             return Err(Refusal::OutOfMemory);
         };
-        let Prepared {
+        let PreparedRequests {
             messages,
             waiting,
             replies,
         } = prepared;
         drop(self.send_all(rt, messages));
-        collect(rt, requests, &waiting, replies)
+        await_replies(rt, requests, &waiting, replies)
     }
 
     /// Sends the requests, which are of this proxy. Returns the sending ends, still locked, which show
@@ -175,9 +177,9 @@ impl<'a, N: Naming, M: Channels> Model for SendersGuard<'a, N, M> {
     ghost view = { λ g. g.guard.value };
 }
 
-/// Returns once the ends are those of this proxy, as they always are. (No type says so of what is
-/// under a lock.)
-fn await_own<N: Naming, M: Channels, R: Wait>(
+/// Loops for ever unless the ends are those of this proxy. They always are, but no type says so
+/// of what a lock holds.
+fn await_own_ends<N: Naming, M: Channels, R: Wait>(
     rt: &R,
     proxy: ProxyNumber,
     senders: &ProxySenders<N, PendingRequest<N>, M>,

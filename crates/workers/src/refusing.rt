@@ -1,4 +1,4 @@
-//! The answers of a worker to requests that get no reply.
+//! The answers to requests that a resolver refused, or that came when it was closed.
 
 ghost use Rattle.std.specs.Prelude.{◌≡◌, ◌≢◌, IsTrue};
 ghost use Rattle.model.specs.Numbers.{Version};
@@ -6,13 +6,13 @@ ghost use Rattle.locked_resolvers.specs.Resolvers.{IsNotEarly, WasRefusedBy};
 ghost use Rattle.locked_resolvers.specs.declared.refusal.Refusal.TheVariants as refusals;
 ghost use Rattle.workers.specs.Refusing.{IsSameOrClosed};
 
-use crate::answer::RefusedRequest;
+use crate::worker_answer::RefusedRequest;
 use agreed_ledger::Naming;
 use locked_resolvers::{Refusal, Refused, Request, ResolverGuard};
 
 /// The request is refused as closed. The guard shows that the resolver is closed, what the cluster is,
 /// and that it has the resolver that the request names.
-pub(crate) fn refused_as_closed<N: Naming>(
+pub(crate) fn refuse_as_closed<N: Naming>(
     guard: &ResolverGuard<'_, N>,
     request: Request<N>,
 ) -> RefusedRequest<N>
@@ -27,7 +27,7 @@ pub(crate) fn refused_as_closed<N: Naming>(
 
 /// The resolver under the guard refused an offer of the request. A request to another resolver, and
 /// one that comes too early, are not offered: here they close the resolver, and are refused as closed.
-pub(crate) fn refused_by_offer<N: Naming>(
+pub(crate) fn refuse_by_offer<N: Naming>(
     guard: &mut ResolverGuard<'_, N>,
     refused: Refused<N>,
 ) -> RefusedRequest<N>
@@ -51,11 +51,11 @@ pub(crate) fn refused_by_offer<N: Naming>(
     } = refused;
     if request.resolver() != guard.number() {
         guard.close();
-        return refused_as_closed(guard, request);
+        return refuse_as_closed(guard, request);
     }
     if let Refusal::Early { .. } = refusal {
         guard.close();
-        return refused_as_closed(guard, request);
+        return refuse_as_closed(guard, request);
     }
     RefusedRequest::new(refusal, request)
 }

@@ -1,9 +1,9 @@
-//! Telling whoever asked.
+//! Sending an answer to whoever asked, with proof of what it said.
 
 ghost use Rattle.std.specs.Prelude.{◌≡◌};
 ghost use Rattle.workers.specs.Refusing.{told_by};
 
-use crate::answer::WorkerAnswer;
+use crate::worker_answer::WorkerAnswer;
 use agreed_ledger::Naming;
 use crossbeam_channel::{SendError, Sender};
 use locked_resolvers::Refusal;

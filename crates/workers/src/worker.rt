@@ -7,7 +7,7 @@ ghost use Rattle.workers.specs.Workers.{HasTakenMore, IsWorkerOf, StaysFailed, T
 ghost use Rattle.locked_resolvers.specs.declared.refusal.Refusal.TheVariants as refusals;
 
 use crate::desk::Desk;
-use crate::ended::EndedWorker;
+use crate::ended_worker::EndedWorker;
 use crate::gate::Gate;
 use crate::pending_request::PendingRequest;
 use agreed_ledger::Naming;

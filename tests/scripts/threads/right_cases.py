@@ -9,21 +9,15 @@ from tests.scripts.common.script import (
 from tests.scripts.threads.words import (
     closings, committed, move, outcomes, reading_and_writing, routes, threads, three_by_nine,
 )
-from tests.scripts.turns.words import LOCK, case, clear, lines, one_key, put, put_servers, put_tag, shown, stamp, transaction
+from tests.scripts.turns.words import (
+    LOCK, case, clear, lines, one_key, put, put_servers, put_tag, read, shown, stamp, transaction, written,
+)
 
 SERVER_4 = "server0000000004"
 ALL_KEY_SERVERS = [KEY_SERVERS, KEY_SERVERS[:-1] + "0"]
 
 # how often a script is run whose text depends on the order
 TIMES = 20
-
-
-def read(key, snapshot=0):
-    return transaction(snapshot, [one_key(key)])
-
-
-def written(key, snapshot=0):
-    return transaction(snapshot, [], [one_key(key)])
 
 
 def each_time(name, script, answers=None):

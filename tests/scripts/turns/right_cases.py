@@ -2,16 +2,8 @@
 from tests.scripts.common.script import BAD_STAMP, LOCKED, METADATA_VERSION, SERVER_1, write
 from tests.scripts.turns.words import (
     LOCK, case, clear, finish, finished, move, offer, offered, offered_to_both, offers, one_key, private_tag, put,
-    put_servers, put_tag, sequence, sequenced, shown, stamp, transaction, turns,
+    put_servers, put_tag, read, sequence, sequenced, shown, stamp, transaction, turns, written,
 )
-
-
-def read(key, snapshot=0):
-    return transaction(snapshot, [one_key(key)])
-
-
-def written(key, snapshot=0):
-    return transaction(snapshot, [], [one_key(key)])
 
 
 def stamps():

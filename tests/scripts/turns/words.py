@@ -14,6 +14,14 @@ def transaction(snapshot=0, reads=(), writes=(), mutations=(), lock_aware=False)
     }
 
 
+def read(key, snapshot=0):
+    return transaction(snapshot, [one_key(key)])
+
+
+def written(key, snapshot=0):
+    return transaction(snapshot, [], [one_key(key)])
+
+
 def sequence(proxy, *batch):
     return {"sequence": {"proxy": proxy, "batch": list(batch)}}
 

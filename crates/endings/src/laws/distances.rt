@@ -13,7 +13,7 @@ ghost use Rattle.endings.specs.Distances.{FinishedRowsWereReached, TheSlowestBou
 
 /// A proxy knows every row up to the row of the last record it finished, and no further one. Of
 /// two proxies the one at the later version knows at least as many rows.
-pub fn known_law()
+pub fn known_rows_law()
     ensures none { NothingFinishedNothingKnown }
     ensures known { AProxyKnowsUpToItsLastRecord }
     ensures later { TheLaterVersionKnowsMore }
@@ -26,7 +26,7 @@ pub fn catch_up_law()
 
 /// The journal of each proxy is a prefix of one journal. So of two proxies the one ahead has the
 /// journal of the other, and then the rows between; its metadata is the other's, changed by these.
-pub fn prefix_law()
+pub fn journals_are_prefixes_law()
     ensures prefix { EachJournalIsAPrefix }
     ensures journal { TheOneAheadHasTheJournalOfTheOther }
     ensures metadata { TheOneAheadHasTheMetadataOfTheOther }
@@ -34,21 +34,21 @@ pub fn prefix_law()
 
 /// Of its own records a proxy lacks exactly the unfinished ones. So once all records are finished,
 /// it lacks only records of other proxies.
-pub fn lacked_law()
+pub fn lacks_only_unfinished_law()
     ensures unfinished { ItLacksItsUnfinishedRecords }
     ensures finished { OnceFinishedItLacksOnlyOthers }
 {}
 
 /// Nothing but the versions bounds how many rows one proxy knows and another does not, not even if
 /// all records are finished.
-pub fn lag_law()
+pub fn unbounded_lag_law()
     ensures { TheyMayBeAnyRowsApart }
 {}
 
 /// A resolver remembers the rows that it has judged after the last record of the slowest proxy. A
 /// proxy has reached each row that it knows. So what a resolver remembers, and what the slowest proxy
 /// knows, are together at most the rows judged.
-pub fn remembered_law()
+pub fn remembered_rows_law()
     ensures rows { RememberedRowsFollowTheSlowest }
     ensures reached { FinishedRowsWereReached }
     ensures bound { TheSlowestBoundsWhatIsRemembered }

@@ -7,14 +7,14 @@ ghost use Rattle.endings.specs.Fairness.{FairSchedulesFinishAll};
 
 /// Each event that can be done when a segment begins comes in that segment. Then all records are
 /// finished after as many segments as work is left, and after one more than there are rows.
-pub fn segment_law()
+pub fn segments_finish_all_law()
     ensures work { FairSegmentsFinishByWork }
     ensures rows { FairSegmentsFinishByRows }
 {}
 
 /// A round makes every offer and every finish that the cluster has. Rounds are such segments, so
 /// they finish all records within the same bounds.
-pub fn round_law()
+pub fn rounds_finish_all_law()
     ensures fair { RoundsAreFair }
     ensures work { RoundsFinishByWork }
     ensures rows { RoundsFinishByRows }
@@ -22,6 +22,6 @@ pub fn round_law()
 
 /// A schedule without end, in which each event that can be done at some time comes then or later,
 /// finishes all records.
-pub fn fair_law()
+pub fn fair_schedule_finishes_law()
     ensures { FairSchedulesFinishAll }
 {}

@@ -6,13 +6,14 @@ ghost use Rattle.endings.specs.Progress.{NothingIsStuck, EachStepTakesOne, Other
 ghost use Rattle.endings.specs.Progress.{AsManyAreDoneAsWorkIsLess, NothingLeftIsAllFinished};
 ghost use Rattle.endings.specs.Progress.{AllFinishedLeavesNothing, AllCanBeFinished};
 ghost use Rattle.endings.specs.Progress.{EveryRunCanBeFinished};
+ghost use Rattle.endings.specs.Orders.{EachIsDoneOnce};
 ghost use Rattle.endings.specs.EventsLeft.{TheEventsLeftAreWork, TheEventsLeftAreDone};
 ghost use Rattle.endings.specs.EventsLeft.{TheEventsLeftFinishAll, AsManyEventsAreLeftAsWork};
 
 /// A resolver that has not judged every row judges the next one that is offered to it. A proxy with
 /// an unfinished record finishes it, or the refusal names a resolver that can judge its next row. So
 /// while a record is unfinished, some offer or finish is done.
-pub fn stuck_law()
+pub fn never_stuck_law()
     ensures next { TheNextRowIsJudged }
     ensures waits { AProxyWaitsForAResolverThatCanJudge }
     ensures stuck { NothingIsStuck }
@@ -21,7 +22,7 @@ pub fn stuck_law()
 /// Each offer or finish that is done takes one from the work that is left, and any other changes
 /// nothing. So of any such events as many are done as the work that is left gets less. None is left
 /// exactly if all records are finished.
-pub fn work_law()
+pub fn work_decreases_law()
     ensures step { EachStepTakesOne }
     ensures others { OthersChangeNothing }
     ensures count { AsManyAreDoneAsWorkIsLess }
@@ -44,4 +45,9 @@ pub fn events_left_law()
     ensures done { TheEventsLeftAreDone }
     ensures finish { TheEventsLeftFinishAll }
     ensures count { AsManyEventsAreLeftAsWork }
+{}
+
+/// No resolver judges a row twice, and no batch is finished twice.
+pub fn judged_and_finished_once_law()
+    ensures { EachIsDoneOnce }
 {}

@@ -1,4 +1,4 @@
-//! Two proxies that meet, and a proxy that its resolvers audit.
+//! Whether two locked proxies agree, and whether all resolvers have reached a proxy's version.
 
 ghost use Rattle.std.specs.Prelude.{◌≡◌, MatchResult};
 ghost use Rattle.locked_cluster.specs.Audits.{HaveReached, IsAudited, IsFirstBehind};

@@ -1,4 +1,4 @@
-//! What is promised of the metadata of proxies.
+//! The metadata of two locked proxies, with what is promised of it.
 
 ghost use Rattle.locked_cluster.specs.Headline.{Headline};
 

@@ -17,8 +17,8 @@ ghost use Rattle.locked_cluster.specs.Proxies.{IsBeginRefusal, IsFinishRefusal};
 ghost use Rattle.locked_cluster.specs.Proxies.{IsLockedProxy, IsRoutingRefusal, ShowsFinished};
 ghost use Rattle.locked_resolvers.specs.declared.refusal.Refusal.TheVariants as refusals;
 
+use crate::commits::collected_replies::{CollectedReplies, collect_replies};
 use crate::commits::commit_fault::CommitFault;
-use crate::commits::replies_to::{Collected, collect_replies};
 use crate::proxies::{Begun, Columns, LockedProxy, Meeting, NotedFinished, NotedRouting, Ready};
 use agreed_ledger::{Ledger, Naming, Records, Sequencer, Ticket};
 use locked_resolvers::{Asking, Refusal};
@@ -133,7 +133,7 @@ impl<'l, N: Naming> SharedProxy<'l, N> {
         let config = self.ledger.config();
         let row = begun.row();
         let made = collect_replies(alloc, config, row, begun.records(), replies.as_slice());
-        let Ok(Collected { replies, columns }) = made else {
+        let Ok(CollectedReplies { replies, columns }) = made else {
             return Err((Refusal::OutOfMemory, begun));
         };
         Ok(Ready::of(row, replies, begun.into_records(), columns))
@@ -210,7 +210,7 @@ impl<'l, N: Naming> SharedProxy<'l, N> {
         let guard = self.lock.lock(rt);
         // (as in `lock`, the number is looked at)
         let guard = self.finished.wait_while(rt, guard, |locked| {
-            locked.number() != number || locked.awaits_before(row)
+            locked.number() != number || locked.awaits_row_before(row)
         });
         // (its contract says what the type keeps)
         let _number = guard.number();

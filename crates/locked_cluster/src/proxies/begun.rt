@@ -1,4 +1,5 @@
-//! The requests for a record that a proxy began.
+//! The requests for a record that a proxy began, and the memory for them that is allocated
+//! beforehand.
 
 ghost use Rattle.std.specs.Prelude.{◌≡◌, ◌≤◌, [], length, replicate, vec_capacity, IfOk};
 ghost use Rattle.locked_cluster.specs.Begun.{AreRequestsFor, IsBegun, with_records};
@@ -109,7 +110,7 @@ impl<N: Naming> Begun<N> {
 /// What a proxy makes before it begins a record, so that nothing is left to allocate once it has
 /// begun it: copies of the records up to the record's row, and room for the requests.
 #[derive(Drop)]
-pub(crate) struct Room<N: Naming> {
+pub(crate) struct BeginRoom<N: Naming> {
     /// The proxy keeps these.
     pub(crate) proxy_records: Records<N>,
     /// These are returned with the requests.
@@ -121,11 +122,11 @@ pub(crate) struct Room<N: Naming> {
 }
 
 /// The room for requests to `resolvers` resolvers. Fails only with `OutOfMemory`.
-pub(crate) fn room_for<N: Naming>(
+pub(crate) fn room_to_begin<N: Naming>(
     alloc: Global,
     records: &Records<N>,
     resolvers: usize,
-) -> Result<Room<N>, OutOfMemory>
+) -> Result<BeginRoom<N>, OutOfMemory>
     ensures proxy { IfOk result (λ room. room.proxy_records ≡ records.now) }
     ensures begun { IfOk result (λ room. room.begun_records ≡ records.now) }
     ensures copies { IfOk result (λ room. room.request_records.items
@@ -133,17 +134,17 @@ pub(crate) fn room_for<N: Naming>(
     ensures empty { IfOk result (λ room. room.requests.items ≡ []) }
     ensures room { IfOk result (λ room. resolvers ≤ vec_capacity room.requests) }
 {
-    Ok(Room {
+    Ok(BeginRoom {
         proxy_records: records.copy()?,
         begun_records: records.copy()?,
-        request_records: copies_of(alloc, records, resolvers)?,
+        request_records: copies_of_records(alloc, records, resolvers)?,
         requests: Vec::with_capacity(alloc, resolvers)?,
     })
 }
 
 /// `count` copies of the records. Fails only with `OutOfMemory`.
 #[tactic(auto, using(std::proofs::lemmas::List::replicate_more))]
-fn copies_of<N: Naming>(
+fn copies_of_records<N: Naming>(
     alloc: Global,
     records: &Records<N>,
     count: usize,

@@ -1,4 +1,4 @@
-//! A column of verdict cells for each resolver.
+//! The verdict cells that a proxy knows of each resolver: one column for each.
 
 ghost use Rattle.std.specs.Prelude.{◌≡◌, [], ◌∷◌, ◌++◌, length, replicate, IfOk, MatchResult};
 ghost use Rattle.locked_cluster.specs.Columns.{ColumnsAgree};

@@ -1,4 +1,5 @@
-//! A proxy as it stands under its lock, without the lock.
+//! A proxy as it is while its lock is held: it begins, finishes, shows routings, meets and
+//! confirms.
 
 ghost use Rattle.std.specs.Prelude.{◌≡◌, ◌<◌, ◌≤◌, slice_get, Some, IfOk, IfErr, MatchBool, OnErr};
 ghost use Rattle.model.specs.Metadata.{metadata as metadata_of};
@@ -10,10 +11,10 @@ ghost use Rattle.locked_cluster.specs.Meetings.{Met};
 ghost use Rattle.locked_cluster.specs.Proxies.{BeginsTicket, FinishesReady, ShowsRouting};
 ghost use Rattle.locked_cluster.specs.Proxies.{IsBeginRefusal, IsBeginRefusalOf, IsFinishRefusal};
 ghost use Rattle.locked_cluster.specs.Proxies.{IsLockedProxy, IsNewLockedProxy, IsRoutingRefusal};
-ghost use Rattle.locked_cluster.specs.Proxies.{awaits_before};
+ghost use Rattle.locked_cluster.specs.Proxies.{awaits_row_before};
 ghost use Rattle.locked_resolvers.specs.declared.refusal.Refusal.TheVariants as refusals;
 
-use crate::proxies::begun::{Begun, Room, requests_with_records, room_for};
+use crate::proxies::begun::{BeginRoom, Begun, requests_with_records, room_to_begin};
 use crate::proxies::columns::Columns;
 use crate::proxies::meeting::Meeting;
 use crate::proxies::noted_finished::NotedFinished;
@@ -138,8 +139,8 @@ impl<N: Naming> LockedProxy<N> {
     }
 
     /// Whether the proxy still has to finish a record of an earlier row.
-    pub fn awaits_before(&self, row: RowNumber) -> bool
-        ensures { result ≡ awaits_before self.now.proxy.begun row }
+    pub fn awaits_row_before(&self, row: RowNumber) -> bool
+        ensures { result ≡ awaits_row_before self.now.proxy.begun row }
     {
         match self.proxy.next_to_finish() {
             Some(rec) => rec.row() < row,
@@ -200,12 +201,12 @@ impl<N: Naming> LockedProxy<N> {
         }
         self.records.agree(records);
         let alloc = self.columns.alloc();
-        let Room {
+        let BeginRoom {
             proxy_records,
             begun_records,
             request_records,
             requests,
-        } = room_for(alloc, records, config.resolvers())?;
+        } = room_to_begin(alloc, records, config.resolvers())?;
         let built = match self.proxy.begin(rec) {
             Ok(built) => built,
             Err(refusal) => {

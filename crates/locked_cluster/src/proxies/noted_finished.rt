@@ -1,4 +1,4 @@
-//! A finished batch that crosses threads.
+//! A finished batch with the records and verdict cells that it follows from.
 
 ghost use Rattle.std.specs.Prelude.{◌≡◌};
 ghost use Rattle.locked_cluster.specs.Answers.{IsNotedFinished};

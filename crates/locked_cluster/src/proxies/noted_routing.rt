@@ -1,4 +1,4 @@
-//! A routing that crosses threads.
+//! A routing with the records and verdict cells that it follows from.
 
 ghost use Rattle.std.specs.Prelude.{◌≡◌};
 ghost use Rattle.locked_cluster.specs.Answers.{IsNotedRouting};

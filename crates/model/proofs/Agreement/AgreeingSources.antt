@@ -6,7 +6,7 @@ use Rattle.model.specs.Transactions.{StampedTransaction, is_state_transaction}
 use Rattle.model.specs.Records.{Record}
 use Rattle.model.specs.Shares.{asks}
 use Rattle.model.specs.Metadata.{is_locked, metadata}
-use Rattle.model.specs.Journal.{VerdictSource, AgreeOn, journal_row, carried_by, reply_states_from, reply_row, is_after, unseen}
+use Rattle.model.specs.Journal.{VerdictSource, AgreeOn, journal_row, carried_to, reply_states_from, reply_row, is_after, unseen}
 use Rattle.model.specs.Outcomes.{outcomes_after}
 use Rattle.model.specs.World.{tagged_all, finished_after}
 use Rattle.model.proofs.Shares.Askers.{journal_row_alike}
@@ -49,10 +49,10 @@ told_some config verdict_by other r rec n [] alike at = refl
 told_some config verdict_by other r rec n (t ∷ ts) alike at = by (is_state_transaction t) refl (told_some config verdict_by other r rec (suc n) ts alike (from_next rec.batch n t ts at))
   where
     by : (b : Bool) → is_state_transaction t ≡ b → reply_states_from verdict_by r rec (suc n) ts ≡ reply_states_from other r rec (suc n) ts
-        → (if b then (record { verdict = verdict_by r rec.row n; carried = carried_by r t }) ∷ reply_states_from verdict_by r rec (suc n) ts else reply_states_from verdict_by r rec (suc n) ts) ≡ (if b then (record { verdict = other r rec.row n; carried = carried_by r t }) ∷ reply_states_from other r rec (suc n) ts else reply_states_from other r rec (suc n) ts)
+        → (if b then (record { verdict = verdict_by r rec.row n; carried = carried_to r t }) ∷ reply_states_from verdict_by r rec (suc n) ts else reply_states_from verdict_by r rec (suc n) ts) ≡ (if b then (record { verdict = other r rec.row n; carried = carried_to r t }) ∷ reply_states_from other r rec (suc n) ts else reply_states_from other r rec (suc n) ts)
     by true state rest =
         let same : verdict_by r rec.row n ≡ other r rec.row n = alike n t (from_here rec.batch n t ts at) (rw state) in
-        λ i. (record { verdict = same i; carried = carried_by r t }) ∷ rest i
+        λ i. (record { verdict = same i; carried = carried_to r t }) ∷ rest i
     by false none rest = rest
 
 pub told_row_of_one : (config : Config) (verdict_by other : VerdictSource) (r : ℕ) (rec : Record) → OneSaysAlike config verdict_by other r rec → reply_row verdict_by r rec ≡ reply_row other r rec

@@ -6,7 +6,7 @@ use Rattle.model.specs.declared.verdict.Verdict.{Verdict}
 use Rattle.model.specs.declared.verdict.Verdict.TheVariants.{Committed}
 use Rattle.model.specs.Records.{oldest}
 use Rattle.model.specs.Shares.{share, share_back_to}
-use Rattle.model.specs.Journal.{verdict_at, list_at, cell_verdicts}
+use Rattle.model.specs.Journal.{verdict_or_conflict, list_at, cell_verdicts}
 use Rattle.model.specs.RequestRules.{NumbersRise}
 use Rattle.model.specs.Agreed.{Column, Columns}
 use Rattle.model.specs.Laws.Agreement.{CommittedInTheCellIsSaid}
@@ -27,7 +27,7 @@ number_at_least least (first ∷ parts) (suc place) part rise at =
     let up = rise.0 in
     omega (arith, later, up)
 
-said_at_place : (least : ℕ) (parts : List Part) (verdicts : List Verdict) (place : ℕ) (part : Part) → NumbersRise least parts → slice_get parts place ≡ Some part → slice_get verdicts place ≡ Some Committed → verdict_at parts verdicts part.number ≡ Committed
+said_at_place : (least : ℕ) (parts : List Part) (verdicts : List Verdict) (place : ℕ) (part : Part) → NumbersRise least parts → slice_get parts place ≡ Some part → slice_get verdicts place ≡ Some Committed → verdict_or_conflict parts verdicts part.number ≡ Committed
 said_at_place least [] verdicts place part rise at said = absurd (cc)
 said_at_place least (first ∷ parts) [] place part rise at said = absurd (cc)
 said_at_place least (first ∷ parts) (verdict ∷ verdicts) zero part rise at said =
@@ -42,7 +42,7 @@ pub said_in_cell : CommittedInTheCellIsSaid
 unfolding cell_verdicts share_back_to
 said_in_cell config h columns r i n rec found commits =
     rw found
-    (subst (λ (k : ℕ). verdict_at (share config rec r) (list_at (list_at columns r) i) k ≡ Committed) commits.number
+    (subst (λ (k : ℕ). verdict_or_conflict (share config rec r) (list_at (list_at columns r) i) k ≡ Committed) commits.number
     (said_at_place 0 (share config rec r) (list_at (list_at columns r) i) commits.place commits.part (parts_rise (oldest config rec) rec r 0 rec.batch) commits.part_there commits.committed))
 
 -- ---- columns that are cut down

@@ -9,7 +9,7 @@ use Rattle.model.specs.Transactions.{StampedTransaction}
 use Rattle.model.specs.Records.{Record, IsHistory}
 use Rattle.model.specs.Shares.{share, share_back_to, asks, each_below}
 use Rattle.model.specs.Verdicts.{share_verdicts}
-use Rattle.model.specs.Journal.{VerdictSource, AgreeOn, history_verdicts, verdict_at, list_at, cell_verdicts, cell_verdict_in_row, unseen}
+use Rattle.model.specs.Journal.{VerdictSource, AgreeOn, history_verdicts, verdict_or_conflict, list_at, cell_verdicts, cell_verdict_in_row, unseen}
 use Rattle.model.specs.World.{reply_with, reply_of}
 use Rattle.model.specs.Agreed.{Column, Columns, IsVerdictColumn}
 use Rattle.model.specs.Finishing.{Replies, verdicts_of_reply, AreRepliesBy, replied_verdicts}
@@ -40,7 +40,7 @@ replies_say config verdict_by before rec replies replied =
     record {
       same = λ r n t below there asking.
           let (verdicts, found, size, same) = replied r below in
-          ap (λ (reply : Option Reply). verdict_at (share config rec r) (verdicts_of_reply reply) n) found ∙ same n t there asking;
+          ap (λ (reply : Option Reply). verdict_or_conflict (share config rec r) (verdicts_of_reply reply) n) found ∙ same n t there asking;
     }
 
 pub columns_give_replies : ColumnsGiveReplies
@@ -57,7 +57,7 @@ reply_alike : (r : ℕ) (rec : Record) (before : List Record) (verdicts others :
 reply_alike r rec before verdicts others verdict_by other same rows =
     λ i. record { resolver = r; proxy = rec.proxy; row = rec.row; version = rec.version; verdicts = same i; unseen = rows i }
 
-cell_at : (config : Config) (h : List Record) (columns : Columns) (r n : ℕ) (rec : Record) → slice_get h rec.row ≡ Some rec → verdict_at (share config rec r) (list_at (list_at columns r) rec.row) n ≡ cell_verdicts config h columns r rec.row n
+cell_at : (config : Config) (h : List Record) (columns : Columns) (r n : ℕ) (rec : Record) → slice_get h rec.row ≡ Some rec → verdict_or_conflict (share config rec r) (list_at (list_at columns r) rec.row) n ≡ cell_verdicts config h columns r rec.row n
 unfolding cell_verdicts
 cell_at config h columns r n rec at = sym (ap (cell_verdict_in_row config (list_at (list_at columns r) rec.row) r n) at)
 

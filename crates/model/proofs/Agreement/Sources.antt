@@ -18,8 +18,8 @@ use Rattle.model.specs.Records.{Record, Follows, IsHistory}
 use Rattle.model.specs.Shares.{share, asks, each_below}
 use Rattle.model.specs.Verdicts.{joined, share_verdicts}
 use Rattle.model.specs.Metadata.{is_locked, after_journal_row, metadata}
-use Rattle.model.specs.Journal.{VerdictSource, AgreeOn, history_verdicts, history_verdict_in_row, history_verdict_in_record, verdict_at, list_at, cell_verdicts, cell_verdict_in_row, journal_row, journal, CellCommits, carried_by, reply_states_from, reply_row, is_after, unseen}
-use Rattle.model.specs.Outcomes.{joined_verdict, outcome_by, outcome, outcomes_from, outcomes_after, outcomes}
+use Rattle.model.specs.Journal.{VerdictSource, AgreeOn, history_verdicts, history_verdict_in_row, history_verdict_in_record, verdict_or_conflict, list_at, cell_verdicts, cell_verdict_in_row, journal_row, journal, CellCommits, carried_to, reply_states_from, reply_row, is_after, unseen}
+use Rattle.model.specs.Outcomes.{joined_verdict, outcome_of_verdict, outcome, outcomes_from, outcomes_after, outcomes}
 use Rattle.model.specs.World.{reply_of, tagged_all, finished_after, finished_batch}
 use Rattle.model.specs.Agreed.{Columns, AreVerdicts}
 use Rattle.model.proofs.Verdicts.Places.{row_at, slice_get-take, slice_get-take_back, take-take_le}
@@ -66,7 +66,7 @@ map_asked f g test (suc n) same =
 outcome_alike : (config : Config) (verdict_by told : VerdictSource) (locked : Bool) (rec : Record) (n : ℕ) (t : StampedTransaction) → AgreeOn config verdict_by told rec → slice_get rec.batch n ≡ Some t → outcome config verdict_by locked rec n t ≡ outcome config told locked rec n t
 unfolding outcome joined_verdict
 outcome_alike config verdict_by told locked rec n t alike at =
-    ap (λ (vs : List Verdict). outcome_by (joined vs) (not t.lock_aware && locked) rec.version n)
+    ap (λ (vs : List Verdict). outcome_of_verdict (joined vs) (not t.lock_aware && locked) rec.version n)
     (map_asked (λ (r : ℕ). verdict_by r rec.row n) (λ (r : ℕ). told r rec.row n) (λ r. asks config rec r t) config.resolvers (λ r within asking. alike.same r n t within at asking))
 
 pub outcomes_from_alike : (config : Config) (verdict_by told : VerdictSource) (locked : Bool) (rec : Record) (n : ℕ) (ts : List StampedTransaction) → AgreeOn config verdict_by told rec → ((k : ℕ) (t : StampedTransaction) → slice_get ts k ≡ Some t → slice_get rec.batch (n + k) ≡ Some t) → outcomes_from config verdict_by locked rec n ts ≡ outcomes_from config told locked rec n ts
@@ -189,7 +189,7 @@ record SaidAt (parts : List Part) (verdicts : List Verdict) (n : ℕ) : Type 0 w
   number : part.number ≡ n
   committed : slice_get verdicts place ≡ Some Committed
 
-said_at : (parts : List Part) (verdicts : List Verdict) (n : ℕ) → verdict_at parts verdicts n ≡ Committed → SaidAt parts verdicts n
+said_at : (parts : List Part) (verdicts : List Verdict) (n : ℕ) → verdict_or_conflict parts verdicts n ≡ Committed → SaidAt parts verdicts n
 said_at [] verdicts n said = absurd (cc)
 said_at (part ∷ parts) [] n said = absurd (cc)
 said_at (part ∷ parts) (verdict ∷ verdicts) n said = by (nat_eq part.number n) refl said (λ there. later (said_at parts verdicts n there))
@@ -197,7 +197,7 @@ said_at (part ∷ parts) (verdict ∷ verdicts) n said = by (nat_eq part.number 
     later : SaidAt parts verdicts n → SaidAt (part ∷ parts) (verdict ∷ verdicts) n
     later found = record { place = suc found.place; part = found.part; part_there = found.part_there; number = found.number; committed = found.committed }
 
-    by : (b : Bool) → nat_eq part.number n ≡ b → (if b then verdict else verdict_at parts verdicts n) ≡ Committed → (verdict_at parts verdicts n ≡ Committed → SaidAt (part ∷ parts) (verdict ∷ verdicts) n) → SaidAt (part ∷ parts) (verdict ∷ verdicts) n
+    by : (b : Bool) → nat_eq part.number n ≡ b → (if b then verdict else verdict_or_conflict parts verdicts n) ≡ Committed → (verdict_or_conflict parts verdicts n ≡ Committed → SaidAt (part ∷ parts) (verdict ∷ verdicts) n) → SaidAt (part ∷ parts) (verdict ∷ verdicts) n
     by true same here rest = record { place = 0; part = part; part_there = refl; number = eqb-true part.number n same; committed = ap (λ (v : Verdict). Some v) here }
     by false other there rest = rest there
 
@@ -270,8 +270,8 @@ told_from_alike verdict_by other r rec n [] same = refl
 told_from_alike verdict_by other r rec n (t ∷ ts) same = by (is_state_transaction t) (told_from_alike verdict_by other r rec (suc n) ts same)
   where
     by : (b : Bool) → reply_states_from verdict_by r rec (suc n) ts ≡ reply_states_from other r rec (suc n) ts
-        → (if b then (record { verdict = verdict_by r rec.row n; carried = carried_by r t }) ∷ reply_states_from verdict_by r rec (suc n) ts else reply_states_from verdict_by r rec (suc n) ts) ≡ (if b then (record { verdict = other r rec.row n; carried = carried_by r t }) ∷ reply_states_from other r rec (suc n) ts else reply_states_from other r rec (suc n) ts)
-    by true rest = λ i. (record { verdict = same n i; carried = carried_by r t }) ∷ rest i
+        → (if b then (record { verdict = verdict_by r rec.row n; carried = carried_to r t }) ∷ reply_states_from verdict_by r rec (suc n) ts else reply_states_from verdict_by r rec (suc n) ts) ≡ (if b then (record { verdict = other r rec.row n; carried = carried_to r t }) ∷ reply_states_from other r rec (suc n) ts else reply_states_from other r rec (suc n) ts)
+    by true rest = λ i. (record { verdict = same n i; carried = carried_to r t }) ∷ rest i
     by false rest = rest
 
 told_row_alike : (verdict_by other : VerdictSource) (r : ℕ) (rec : Record) → ((k : ℕ) → verdict_by r rec.row k ≡ other r rec.row k) → reply_row verdict_by r rec ≡ reply_row other r rec

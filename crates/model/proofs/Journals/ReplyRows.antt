@@ -16,7 +16,7 @@ use Rattle.model.specs.declared.unseen.UnseenRow.{UnseenRow}
 use Rattle.model.specs.Transactions.{StampedTransaction, is_state_transaction}
 use Rattle.model.specs.Records.{Record, IsHistory, Follows, last_version}
 use Rattle.model.specs.Shares.{each_below}
-use Rattle.model.specs.Journal.{VerdictSource, state_of, states_from, journal_row, journal, carried_by, reply_states_from, reply_row, reply_state_of, reply_row_of, HaveVerdictCount, is_after, unseen}
+use Rattle.model.specs.Journal.{VerdictSource, state_of, states_from, journal_row, journal, carried_to, reply_states_from, reply_row, reply_state_of, reply_row_of, HaveVerdictCount, is_after, unseen}
 use Rattle.model.specs.World.{up_to_version, rows_up_to}
 use Rattle.model.proofs.Members.{Has, Has-from_Contains, Contains-from_Has}
 use Rattle.model.proofs.Shares.Askers.{slice_get-append_left}
@@ -47,8 +47,8 @@ told_states config verdict_by rec r below n [] = refl
 told_states config verdict_by rec r below n (t ∷ ts) = by (is_state_transaction t) (told_states config verdict_by rec r below (suc n) ts)
   where
     by : (b : Bool) → reply_states_from verdict_by r rec (suc n) ts ≡ map (reply_state_of r) (states_from config verdict_by rec (suc n) ts)
-        → (if b then (record { verdict = verdict_by r rec.row n; carried = carried_by r t }) ∷ reply_states_from verdict_by r rec (suc n) ts else reply_states_from verdict_by r rec (suc n) ts) ≡ map (reply_state_of r) (if b then state_of config verdict_by rec n t ∷ states_from config verdict_by rec (suc n) ts else states_from config verdict_by rec (suc n) ts)
-    by true rest = λ i. (record { verdict = sym (said_by config verdict_by rec n t r below) i; carried = carried_by r t }) ∷ rest i
+        → (if b then (record { verdict = verdict_by r rec.row n; carried = carried_to r t }) ∷ reply_states_from verdict_by r rec (suc n) ts else reply_states_from verdict_by r rec (suc n) ts) ≡ map (reply_state_of r) (if b then state_of config verdict_by rec n t ∷ states_from config verdict_by rec (suc n) ts else states_from config verdict_by rec (suc n) ts)
+    by true rest = λ i. (record { verdict = sym (said_by config verdict_by rec n t r below) i; carried = carried_to r t }) ∷ rest i
     by false rest = rest
 
 pub told_row_is : (config : Config) (verdict_by : VerdictSource) (rec : Record) (r : ℕ) → r < config.resolvers → reply_row verdict_by r rec ≡ reply_row_of r (journal_row config verdict_by rec)

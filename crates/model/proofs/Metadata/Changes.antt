@@ -8,7 +8,7 @@ use Rattle.std.proofs.lemmas.Map.Lookups.{exact_bytes}
 use Rattle.system_keys.specs.declared.change.Change.{Change}
 use Rattle.system_keys.specs.declared.change.Change.TheVariants.{Set, Clear}
 use Rattle.system_keys.specs.Keys.{Key, Range, holds}
-use Rattle.system_keys.specs.Families.{is_kept}
+use Rattle.system_keys.specs.Families.{is_kept_key}
 use Rattle.model.specs.declared.journal.StateTxn.{StateTxn}
 use Rattle.model.specs.declared.journal.JournalRow.{JournalRow}
 use Rattle.model.specs.Metadata.{Entry, Entries, AreKept, entry_value, after_change, after_changes, is_applied, after_state, after_journal_row, metadata, is_locked}
@@ -26,10 +26,10 @@ inserted_at (e ∷ rows) key value = by (key_cmp key e.0) refl (inserted_at rows
     by Equal is rest = ap (λ (r : Ordering). cond (is_eq r) (Some value) (entry_value rows key)) is
     by Greater is rest = ap (λ (r : Ordering). cond (is_eq r) (Some e.1) (entry_value (insert_entry key_cmp rows key value) key)) is ∙ rest
 
-pub changed_set : (rows : Entries) (key : Key) (value : List ℕ) → is_kept key ≡ true → entry_value (after_change rows (Set key value)) key ≡ Some value
+pub changed_set : (rows : Entries) (key : Key) (value : List ℕ) → is_kept_key key ≡ true → entry_value (after_change rows (Set key value)) key ≡ Some value
 changed_set rows key value kept = ap (λ (t : Bool). entry_value (if t then insert_entry key_cmp rows key value else rows) key) kept ∙ inserted_at rows key value
 
-pub changed_not_kept : (rows : Entries) (key : Key) (value : List ℕ) → is_kept key ≡ false → after_change rows (Set key value) ≡ rows
+pub changed_not_kept : (rows : Entries) (key : Key) (value : List ℕ) → is_kept_key key ≡ false → after_change rows (Set key value) ≡ rows
 changed_not_kept rows key value other = ap (λ (t : Bool). if t then insert_entry key_cmp rows key value else rows) other
 
 -- two keys that differ do not compare as equal
@@ -53,7 +53,7 @@ inserted_elsewhere (e ∷ rows) key other value differ = by (key_cmp key e.0) re
     by Greater is rest = ap (λ (found : Option (List ℕ)). cond (is_eq (key_cmp other e.0)) (Some e.1) found) rest
 
 pub changed_other : (rows : Entries) (key other : Key) (value : List ℕ) → ¬ (other ≡ key) → entry_value (after_change rows (Set key value)) other ≡ entry_value rows other
-changed_other rows key other value differ = by (is_kept key)
+changed_other rows key other value differ = by (is_kept_key key)
   where
     by : (t : Bool) → entry_value (if t then insert_entry key_cmp rows key value else rows) other ≡ entry_value rows other
     by true = inserted_elsewhere rows key other value differ
@@ -80,25 +80,25 @@ changed_left rows range key outside = cleared_at rows range key ∙ ap (λ (t : 
 
 -- the same, by members
 abbrev Kept : Entries → Type 0
-Kept rows = (row : Entry) → Has rows row → is_kept row.0 ≡ true
+Kept rows = (row : Entry) → Has rows row → is_kept_key row.0 ≡ true
 
-inserted_kept : (rows : Entries) (key : Key) (value : List ℕ) → is_kept key ≡ true → Kept rows → Kept (insert_entry key_cmp rows key value)
-inserted_kept [] key value own all row (inl same) = subst (λ (r : Entry). is_kept r.0 ≡ true) same own
+inserted_kept : (rows : Entries) (key : Key) (value : List ℕ) → is_kept_key key ≡ true → Kept rows → Kept (insert_entry key_cmp rows key value)
+inserted_kept [] key value own all row (inl same) = subst (λ (r : Entry). is_kept_key r.0 ≡ true) same own
 inserted_kept [] key value own all row (inr none) = absurd none
 inserted_kept (e ∷ rows) key value own all row has = by (key_cmp key e.0) (inserted_kept rows key value own (λ r there. all r (inr there)) row) has
   where
-    by : (r : Ordering) → (Has (insert_entry key_cmp rows key value) row → is_kept row.0 ≡ true) → Has (match_ordering r ((key, value) ∷ e ∷ rows) ((e.0, value) ∷ rows) (e ∷ insert_entry key_cmp rows key value)) row → is_kept row.0 ≡ true
-    by Less rest (inl same) = subst (λ (r : Entry). is_kept r.0 ≡ true) same own
+    by : (r : Ordering) → (Has (insert_entry key_cmp rows key value) row → is_kept_key row.0 ≡ true) → Has (match_ordering r ((key, value) ∷ e ∷ rows) ((e.0, value) ∷ rows) (e ∷ insert_entry key_cmp rows key value)) row → is_kept_key row.0 ≡ true
+    by Less rest (inl same) = subst (λ (r : Entry). is_kept_key r.0 ≡ true) same own
     by Less rest (inr there) = all row there
-    by Equal rest (inl same) = subst (λ (r : Entry). is_kept r.0 ≡ true) same (all e (inl refl))
+    by Equal rest (inl same) = subst (λ (r : Entry). is_kept_key r.0 ≡ true) same (all e (inl refl))
     by Equal rest (inr there) = all row (inr there)
     by Greater rest (inl same) = all row (inl same)
     by Greater rest (inr there) = rest there
 
 changed_kept : (rows : Entries) (change : Change) → Kept rows → Kept (after_change rows change)
-changed_kept rows (Set key value) all = by (is_kept key) refl
+changed_kept rows (Set key value) all = by (is_kept_key key) refl
   where
-    by : (t : Bool) → is_kept key ≡ t → Kept (if t then insert_entry key_cmp rows key value else rows)
+    by : (t : Bool) → is_kept_key key ≡ t → Kept (if t then insert_entry key_cmp rows key value else rows)
     by true own = inserted_kept rows key value own all
     by false other = all
 changed_kept rows (Clear range) all = λ row has. all row (Has-from_filter (λ (r : Entry). not (holds range r.0)) rows row has).0

@@ -11,7 +11,7 @@ use Rattle.std.proofs.lemmas.List.Sums.{fold-append}
 use Rattle.system_keys.specs.declared.change.Change.{Change}
 use Rattle.system_keys.specs.declared.change.Change.TheVariants.{Set, Clear}
 use Rattle.system_keys.specs.Keys.{Key, holds}
-use Rattle.system_keys.specs.Families.{is_kept}
+use Rattle.system_keys.specs.Families.{is_kept_key}
 use Rattle.model.specs.declared.journal.StateTxn.{StateTxn}
 use Rattle.model.specs.declared.journal.JournalRow.{JournalRow}
 use Rattle.model.specs.Metadata.{Entry, Entries, IsInOrder, after_change, after_changes, is_applied, after_state, after_journal_row, metadata, is_locked, applied_changes}
@@ -75,7 +75,7 @@ filter_in_order p (e ∷ rows) s = by (p e) (behind_filter e.0 p rows s.0) (filt
     by false first rest = rest
 
 pub changed_in_order : (rows : Entries) (change : Change) → IsInOrder rows → IsInOrder (after_change rows change)
-changed_in_order rows (Set key value) s = by (is_kept key)
+changed_in_order rows (Set key value) s = by (is_kept_key key)
   where
     by : (t : Bool) → IsInOrder (if t then insert_entry key_cmp rows key value else rows)
     by true = insert_in_order rows key value s

@@ -9,7 +9,7 @@ use Rattle.std.proofs.lemmas.Option.{same_Some, slice_get_within}
 use Rattle.system_keys.specs.declared.change.Change.{Change}
 use Rattle.system_keys.specs.declared.change.Change.TheVariants.{Set, Clear}
 use Rattle.system_keys.specs.Changes.{is_state}
-use Rattle.system_keys.specs.Families.{kind_of, is_kept}
+use Rattle.system_keys.specs.Families.{kind_of, is_kept_key}
 use Rattle.model.specs.Configs.{Config}
 use Rattle.model.specs.declared.journal.JournalRow.{JournalRow}
 use Rattle.model.specs.declared.outcome.Outcome.{Outcome}
@@ -22,7 +22,7 @@ use Rattle.model.specs.Shares.{each_below, asks_back_to, asked}
 use Rattle.model.specs.Verdicts.{is_committed, joined}
 use Rattle.model.specs.Metadata.{Entries, entry_value, is_filled, is_locked, after_change, after_changes, is_applied, after_state, metadata}
 use Rattle.model.specs.Journal.{VerdictSource, history_verdicts, state_of, states_from, journal_row, journal}
-use Rattle.model.specs.Outcomes.{joined_verdict, outcome_by, outcome}
+use Rattle.model.specs.Outcomes.{joined_verdict, outcome_of_verdict, outcome}
 use Rattle.model.specs.Serial.{Place}
 use Rattle.model.specs.Locks.{LeavesLockRow, LockTheDatabase, IsLockHeld, AHeldLockIsInTheMetadata, AHeldLockRefusesThePlain}
 use Rattle.model.proofs.Members.{Has, Has-from_Contains, Contains-from_Has, list_any-from_Has, Has-from_filter, Has-split}
@@ -36,7 +36,7 @@ use Rattle.model.proofs.Verdicts.Joined.{least_of_committed}
 
 -- ---- the lock row after some changes
 
-locked_key_is_kept : is_kept locked_key ≡ true
+locked_key_is_kept : is_kept_key locked_key ≡ true
 unfolding kind_of
 locked_key_is_kept = refl
 
@@ -105,7 +105,7 @@ let_through true locked free = refl
 let_through false true free = absurd (cc)
 let_through false false free = refl
 
-parts_of_committed : (v : Verdict) (refused : Bool) (version number : ℕ) → outcome_by v refused version number ≡ Committed version number → (v ≡ verdicts.Committed) × (refused ≡ false)
+parts_of_committed : (v : Verdict) (refused : Bool) (version number : ℕ) → outcome_of_verdict v refused version number ≡ Committed version number → (v ≡ verdicts.Committed) × (refused ≡ false)
 parts_of_committed verdicts.Conflict refused version number is = absurd (cc)
 parts_of_committed verdicts.TooOld refused version number is = absurd (cc)
 parts_of_committed verdicts.Committed true version number is = absurd (cc)
@@ -126,7 +126,7 @@ committed_if_applied config verdict_by locked rec n t state applied =
     let all : joined (said verdict_by rec n (asked config rec t)) ≡ verdicts.Committed =
     ap (λ (rs : List ℕ). joined (said verdict_by rec n rs)) (asked_are_all config rec t state) ∙ joined_of_all (said verdict_by rec n (each_below config.resolvers)) both.0 in
     let free : (not t.lock_aware && locked) ≡ false = not_refused t.lock_aware locked both.1 in
-    λ i. outcome_by (all i) (free i) rec.version n
+    λ i. outcome_of_verdict (all i) (free i) rec.version n
 
 applied_if_committed : (config : Config) (verdict_by : VerdictSource) (locked : Bool) (rec : Record) (n : ℕ) (t : StampedTransaction) → is_state_transaction t ≡ true → outcome config verdict_by locked rec n t ≡ Committed rec.version n → is_applied locked (state_of config verdict_by rec n t) ≡ true
 unfolding outcome joined_verdict
@@ -293,7 +293,7 @@ a_held_lock_is_in_the_metadata config h (suc k) held = by (cases_order k (length
 
 refused_by_lock : (config : Config) (verdict_by : VerdictSource) (locked : Bool) (rec : Record) (n : ℕ) (t : StampedTransaction) → locked ≡ true → t.lock_aware ≡ false → joined_verdict config verdict_by rec n t ≡ verdicts.Committed → outcome config verdict_by locked rec n t ≡ Locked
 unfolding outcome
-refused_by_lock config verdict_by locked rec n t held plain all = λ i. outcome_by (all i) (not (plain i) && held i) rec.version n
+refused_by_lock config verdict_by locked rec n t held plain all = λ i. outcome_of_verdict (all i) (not (plain i) && held i) rec.version n
 
 pub a_held_lock_refuses_the_plain : AHeldLockRefusesThePlain
 a_held_lock_refuses_the_plain config h b held plain all =

@@ -17,7 +17,7 @@ use Rattle.model.specs.declared.reply.Reply.{Reply}
 use Rattle.model.specs.Records.{Record}
 use Rattle.model.specs.Shares.{share, each_below}
 use Rattle.model.specs.Journal.{reply_state_of, reply_row_of, HaveVerdictCount}
-use Rattle.model.specs.Finishing.{Replies, reply_from, unseen_of_reply, IsReplyTo, LeadTo, AgreeOnRows, content_of, verdict_in_row, row_from, state_by_replies, states_by_replies_from, row_by_replies, rows_by_replies_from, rows_by_replies, is_reply_to, carries_as, row_fits, version_at, place_fits_by, place_fits, misfits, are_replies_to, disagreements}
+use Rattle.model.specs.Finishing.{Replies, reply_from, unseen_of_reply, IsReplyTo, LeadTo, AgreeOnRows, copy_content, verdict_in_row, row_from, state_by_replies, states_by_replies_from, row_by_replies, rows_by_replies_from, rows_by_replies, is_reply_to, has_content_for, row_fits, version_at, place_fits_by, place_fits, misfits, are_replies_to, disagreements}
 use Rattle.model.proofs.Members.{Has, Has-from_Contains}
 use Rattle.model.proofs.Journals.ReplyRows.{length-each_below, slice_get-each_below}
 use Rattle.model.proofs.History.Chain.{filter_no}
@@ -124,7 +124,7 @@ reply_test config rec r reply is =
     (and_from _ _ (and_from _ _ (and_from _ _ (eq-eqb reply.resolver r is.resolver) (eq-eqb reply.proxy rec.proxy is.proxy)) (eq-eqb reply.row rec.row is.row)) (eq-eqb reply.version rec.version is.version))
     (eq-eqb (length reply.verdicts) (length (share config rec r)) is.verdicts)
 
-carried_test : (r : ℕ) (states : List StateTxn) → list_all (carries_as r) (map (reply_state_of r) states) ≡ true
+carried_test : (r : ℕ) (states : List StateTxn) → list_all (has_content_for r) (map (reply_state_of r) states) ≡ true
 carried_test r [] = refl
 carried_test r (t ∷ states) = and_from _ _ (by (nat_eq r 0)) (carried_test r states)
   where
@@ -193,9 +193,9 @@ agreeing_do_not config version rec replies rows some agree =
 
 -- ---- replies that do not disagree agree on the rows that they tell
 
-carried_is : (z : Bool) (r : ℕ) (of_0 state : UnseenState) → nat_eq r 0 ≡ z → (r ≡ 0 → of_0 ≡ state) → (if z then is_some state.carried else not (is_some state.carried)) ≡ true → (if z then Some (content_of of_0) else None) ≡ state.carried
+carried_is : (z : Bool) (r : ℕ) (of_0 state : UnseenState) → nat_eq r 0 ≡ z → (r ≡ 0 → of_0 ≡ state) → (if z then is_some state.carried else not (is_some state.carried)) ≡ true → (if z then Some (copy_content of_0) else None) ≡ state.carried
 carried_is true r of_0 state first same carries =
-    ap (λ (s : UnseenState). Some (content_of s)) (same (eqb-true r 0 first)) ∙ by state.carried carries
+    ap (λ (s : UnseenState). Some (copy_content s)) (same (eqb-true r 0 first)) ∙ by state.carried carries
   where
     by : (found : Option Carried) → is_some found ≡ true → Some (unwrap_or found (record { mutations = []; lock_aware = false })) ≡ found
     by None none = absurd (cc)
@@ -209,7 +209,7 @@ carried_is false r of_0 state other same carries = by state.carried carries
 verdict_of_state : UnseenState → Verdict
 verdict_of_state state = state.verdict
 
-state_by_replies_is : (resolvers : ℕ) (replies : Replies) (k j r : ℕ) (of_r : UnseenRow) (of_0 state : UnseenState) → r < resolvers → row_from replies k r ≡ Some of_r → verdict_in_row (Some of_r) j ≡ state.verdict → (r ≡ 0 → of_0 ≡ state) → carries_as r state ≡ true → reply_state_of r (state_by_replies resolvers replies k j of_0) ≡ state
+state_by_replies_is : (resolvers : ℕ) (replies : Replies) (k j r : ℕ) (of_r : UnseenRow) (of_0 state : UnseenState) → r < resolvers → row_from replies k r ≡ Some of_r → verdict_in_row (Some of_r) j ≡ state.verdict → (r ≡ 0 → of_0 ≡ state) → has_content_for r state ≡ true → reply_state_of r (state_by_replies resolvers replies k j of_0) ≡ state
 state_by_replies_is resolvers replies k j r of_r of_0 state below there is same carries =
     λ i. record { verdict = verdict i; carried = carried_is (nat_eq r 0) r of_0 state refl same carries i }
   where
@@ -219,12 +219,12 @@ state_by_replies_is resolvers replies k j r of_r of_0 state below there is same 
         (slice_get-map (λ (s : ℕ). verdict_in_row (row_from replies k s) j) (each_below resolvers) r ∙ ap (option_map (λ (s : ℕ). verdict_in_row (row_from replies k s) j)) (slice_get-each_below resolvers r below))
         ∙ ap (λ (found : Option UnseenRow). verdict_in_row found j) there ∙ is
 
-states_by_replies_are : (resolvers : ℕ) (replies : Replies) (k j r : ℕ) (of_r : UnseenRow) (of_0 states : List UnseenState) → r < resolvers → row_from replies k r ≡ Some of_r → length of_0 ≡ length states → ((i : ℕ) (state : UnseenState) → slice_get states i ≡ Some state → verdict_in_row (Some of_r) (j + i) ≡ state.verdict) → (r ≡ 0 → of_0 ≡ states) → list_all (carries_as r) states ≡ true → map (reply_state_of r) (states_by_replies_from resolvers replies k j of_0) ≡ states
+states_by_replies_are : (resolvers : ℕ) (replies : Replies) (k j r : ℕ) (of_r : UnseenRow) (of_0 states : List UnseenState) → r < resolvers → row_from replies k r ≡ Some of_r → length of_0 ≡ length states → ((i : ℕ) (state : UnseenState) → slice_get states i ≡ Some state → verdict_in_row (Some of_r) (j + i) ≡ state.verdict) → (r ≡ 0 → of_0 ≡ states) → list_all (has_content_for r) states ≡ true → map (reply_state_of r) (states_by_replies_from resolvers replies k j of_0) ≡ states
 states_by_replies_are resolvers replies k j r of_r [] [] below there size is same carry = refl
 states_by_replies_are resolvers replies k j r of_r [] (state ∷ states) below there size is same carry = absurd (omega arith)
 states_by_replies_are resolvers replies k j r of_r (first ∷ of_0) [] below there size is same carry = absurd (omega arith)
 states_by_replies_are resolvers replies k j r of_r (first ∷ of_0) (state ∷ states) below there size is same carry =
-    let parts = and_parts (carries_as r state) (list_all (carries_as r) states) carry in
+    let parts = and_parts (has_content_for r state) (list_all (has_content_for r) states) carry in
     let here : j + 0 ≡ j = omega arith in
     let one = state_by_replies_is resolvers replies k j r of_r first state below there (ap (verdict_in_row (Some of_r)) (sym here) ∙ is 0 state refl) (λ zero_is. let both = same zero_is in cc) parts.0 in
     let rest = states_by_replies_are resolvers replies k (suc j) r of_r of_0 states below there (omega arith) (λ i s at. let next : suc j + i ≡ j + suc i = omega arith in ap (verdict_in_row (Some of_r)) next ∙ is (suc i) s at) (λ zero_is. let both = same zero_is in cc) parts.1 in
@@ -237,7 +237,7 @@ verdicts_stand of_r i state at =
 
 row_by_replies_fits : (resolvers : ℕ) (replies : Replies) (k r version : ℕ) (of_0 of_r : UnseenRow) → r < resolvers → row_from replies k r ≡ Some of_r → of_0.version ≡ version → (r ≡ 0 → of_0 ≡ of_r) → row_fits version (length of_0.states) r (Some of_r) ≡ true → reply_row_of r (row_by_replies resolvers replies k of_0) ≡ of_r
 row_by_replies_fits resolvers replies k r version of_0 of_r below there first same fits =
-    let parts = and_parts (nat_eq of_r.version version && nat_eq (length of_r.states) (length of_0.states)) (list_all (carries_as r) of_r.states) fits in
+    let parts = and_parts (nat_eq of_r.version version && nat_eq (length of_r.states) (length of_0.states)) (list_all (has_content_for r) of_r.states) fits in
     let numbers = and_parts (nat_eq of_r.version version) (nat_eq (length of_r.states) (length of_0.states)) parts.0 in
     let version_is : of_0.version ≡ of_r.version = first ∙ sym (eqb-true of_r.version version numbers.0) in
     let states = states_by_replies_are resolvers replies k 0 r of_r of_0.states of_r.states below there (sym (eqb-true (length of_r.states) (length of_0.states) numbers.1))
@@ -284,7 +284,7 @@ there_fits config version end replies k r (Some of_0) first below fits =
     own = ap (row_fits (version_at config.step version k) (length of_0.states) 0) (sym first) ∙ below_all (λ s. row_fits (version_at config.step version k) (length of_0.states) s (row_from replies k s)) config.resolvers 0 parts.1 (omega (arith, below))
 
     version_is : of_0.version ≡ version_at config.step version k
-    version_is = eqb-true of_0.version (version_at config.step version k) (and_parts (nat_eq of_0.version (version_at config.step version k)) (nat_eq (length of_0.states) (length of_0.states)) (and_parts (nat_eq of_0.version (version_at config.step version k) && nat_eq (length of_0.states) (length of_0.states)) (list_all (carries_as 0) of_0.states) own).0).0
+    version_is = eqb-true of_0.version (version_at config.step version k) (and_parts (nat_eq of_0.version (version_at config.step version k)) (nat_eq (length of_0.states) (length of_0.states)) (and_parts (nat_eq of_0.version (version_at config.step version k) && nat_eq (length of_0.states) (length of_0.states)) (list_all (has_content_for 0) of_0.states) own).0).0
 
     by : (found : Option UnseenRow) → row_from replies k r ≡ found → row_fits (version_at config.step version k) (length of_0.states) r found ≡ true → found ≡ Some (reply_row_of r (row_by_replies config.resolvers replies k of_0))
     by None at fit = absurd (cc)
@@ -389,5 +389,5 @@ agree_on_told config version rec replies some none =
             let same : row ≡ row_by_replies config.resolvers replies k first = cc in
             let all = (and_parts (nat_le (version_at config.step version k) rec.previous) (list_all (λ r. row_fits (version_at config.step version k) (length first.states) r (row_from replies k r)) (each_below config.resolvers)) fit).1 in
             let own = ap (row_fits (version_at config.step version k) (length first.states) 0) (sym is) ∙ below_all (λ r. row_fits (version_at config.step version k) (length first.states) r (row_from replies k r)) config.resolvers 0 all some in
-            let numbers = (and_parts (nat_eq first.version (version_at config.step version k) && nat_eq (length first.states) (length first.states)) (list_all (carries_as 0) first.states) own).0 in
+            let numbers = (and_parts (nat_eq first.version (version_at config.step version k) && nat_eq (length first.states) (length first.states)) (list_all (has_content_for 0) first.states) own).0 in
             ap (λ (r : JournalRow). r.version) same ∙ eqb-true first.version (version_at config.step version k) (and_parts (nat_eq first.version (version_at config.step version k)) (nat_eq (length first.states) (length first.states)) numbers).0

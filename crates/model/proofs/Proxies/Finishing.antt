@@ -11,7 +11,7 @@ use Rattle.model.specs.Transactions.{StampedTransaction}
 use Rattle.model.specs.Records.{Record, IsHistory, last_version, records_of_proxy}
 use Rattle.model.specs.Shares.{share, share_back_to, asks}
 use Rattle.model.specs.Verdicts.{share_verdicts}
-use Rattle.model.specs.Journal.{VerdictSource, history_verdicts, verdict_at, journal_row, journal, is_after}
+use Rattle.model.specs.Journal.{VerdictSource, history_verdicts, verdict_or_conflict, journal_row, journal, is_after}
 use Rattle.model.specs.World.{World, Finish, FinishedBatch, Handled, up_to_version, rows_up_to, reply_of, reply_with, finished_after, finished_batch, handle_event, finished_version, proxy_journal}
 use Rattle.model.specs.Finishing.{Replies, reply_from, replied_verdicts, AgreeOnRows, AreRepliesBy, LeadTo, version_at, ProxyView, HasFinished}
 use Rattle.model.specs.Laws.Proxies.{unseen_rows, journal_up_to, MayFinish, IsBefore, IsAfter}
@@ -194,7 +194,7 @@ true_in_step verdict_by h v new rec rest replies finished before begun replied h
 
 -- ---- in a world
 
-said_of_share : (config : Config) (h : List Record) (r i n : ℕ) (rec : Record) (t : StampedTransaction) → slice_get h i ≡ Some rec → slice_get rec.batch n ≡ Some t → asks config rec r t ≡ true → verdict_at (share config rec r) (share_verdicts config r (take i h) rec) n ≡ history_verdicts config h r i n
+said_of_share : (config : Config) (h : List Record) (r i n : ℕ) (rec : Record) (t : StampedTransaction) → slice_get h i ≡ Some rec → slice_get rec.batch n ≡ Some t → asks config rec r t ≡ true → verdict_or_conflict (share config rec r) (share_verdicts config r (take i h) rec) n ≡ history_verdicts config h r i n
 unfolding history_verdicts share_back_to
 said_of_share config h r i n rec t at there asking =
     rw (at, there, share_verdicts_are config r (take i h) rec) (verdict_at_asker config r (take i h) rec [] rec.batch 0 n n t refl (omega arith) there asking)

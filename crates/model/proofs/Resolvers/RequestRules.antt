@@ -11,7 +11,7 @@ use Rattle.model.specs.Transactions.{StampedTransaction, is_state_transaction, a
 use Rattle.model.specs.Owners.{asks_read, asks_write}
 use Rattle.model.specs.Records.{Record}
 use Rattle.model.specs.Shares.{read_bound, part_back_to, asks_back_to, parts_back_to, share_back_to}
-use Rattle.model.specs.Journal.{carried_by}
+use Rattle.model.specs.Journal.{carried_to}
 use Rattle.model.specs.Requests.{request_back_to, marks_from}
 use Rattle.model.specs.RequestRules.{NumbersRise, part_numbers}
 use Rattle.model.specs.Laws.Resolvers.{RequestsKeepTheRule, LaterPartsHaveGreaterNumbers}
@@ -81,7 +81,7 @@ marks_named oldest rec r n (t ∷ ts) = by (asks_back_to oldest rec r t) refl (i
     marks = marks_from r (suc n) ts
 
     mark : StateMark
-    mark = record { number = n; carried = carried_by r t }
+    mark = record { number = n; carried = carried_to r t }
 
     behind : All (IsNamed parts) marks → All (IsNamed (own ∷ parts)) marks
     behind later = All-weaker (IsNamed parts) (IsNamed (own ∷ parts)) (λ (one : StateMark) named. named_behind own parts one named) marks later
@@ -107,9 +107,9 @@ marks_have_content r n [] = All-nil (HasContent r)
 marks_have_content r n (t ∷ ts) = by (is_state_transaction t) (marks_have_content r (suc n) ts)
   where
     by : (b : Bool) → All (HasContent r) (marks_from r (suc n) ts)
-        → All (HasContent r) (if b then (record { number = n; carried = carried_by r t }) ∷ marks_from r (suc n) ts else marks_from r (suc n) ts)
+        → All (HasContent r) (if b then (record { number = n; carried = carried_to r t }) ∷ marks_from r (suc n) ts else marks_from r (suc n) ts)
     by true later =
-        All-cons (HasContent r) (record { number = n; carried = carried_by r t }) (marks_from r (suc n) ts)
+        All-cons (HasContent r) (record { number = n; carried = carried_to r t }) (marks_from r (suc n) ts)
         (some_if (nat_eq r 0) (record { mutations = filter is_state t.changes; lock_aware = t.lock_aware })) later
     by false later = later
 

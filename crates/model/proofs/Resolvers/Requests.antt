@@ -10,7 +10,7 @@ use Rattle.model.specs.Owners.{asks_read, asks_write}
 use Rattle.model.specs.Records.{Record, oldest, IsHistory, Follows, last_version, records_of_proxy}
 use Rattle.model.specs.Shares.{share, share_back_to, asks, read_bound}
 use Rattle.model.specs.Verdicts.{JudgedPart, judged_at, verdicts_after, judged_before, share_verdicts}
-use Rattle.model.specs.Journal.{VerdictSource, history_verdicts, verdict_at, carried_by, reply_states_from, reply_row, is_after, unseen, least, oldest_proxy_version, remembered}
+use Rattle.model.specs.Journal.{VerdictSource, history_verdicts, verdict_or_conflict, carried_to, reply_states_from, reply_row, is_after, unseen, least, oldest_proxy_version, remembered}
 use Rattle.model.specs.Requests.{Request, request, request_back_to, marks_from, judged_of, request_verdicts, reply_state_of_mark, request_reply_row, request_reply_rows, requests_of_proxy, last_request_version, request_unseen, request_reply, request_oldest_proxy_version, remembered_requests}
 use Rattle.model.specs.World.{reply_of}
 use Rattle.model.proofs.Verdicts.Places.{slice_get-take}
@@ -36,7 +36,7 @@ state_asks : (config : Config) (rec : Record) (r : ℕ) (t : StampedTransaction)
 state_asks config rec r t is = ap (λ (b : Bool). b || list_any (asks_read rec.moves (read_bound (oldest config rec) t) r) (all_reads t) || list_any (asks_write rec.moves r) t.writes) is
 
 verdict_here : (config : Config) (h : List Record) (r i n : ℕ) (rec : Record) (t : StampedTransaction) → slice_get h i ≡ Some rec → slice_get rec.batch n ≡ Some t → asks config rec r t ≡ true →
-    verdict_at (share config rec r) (share_verdicts config r (take i h) rec) n ≡ history_verdicts config h r i n
+    verdict_or_conflict (share config rec r) (share_verdicts config r (take i h) rec) n ≡ history_verdicts config h r i n
 unfolding history_verdicts share_back_to
 verdict_here config h r i n rec t at there asking =
     rw (at, there, share_verdicts_are config r (take i h) rec) (verdict_at_asker config r (take i h) rec [] rec.batch 0 n n t refl (omega arith) there asking)
@@ -60,12 +60,12 @@ marks_told config h r i rec at row n (t ∷ ts) here = by (is_state_transaction 
 
     by : (b : Bool) → is_state_transaction t ≡ b
         → map (reply_state_of_mark (share config rec r) (share_verdicts config r (take i h) rec)) (marks_from r (suc n) ts) ≡ reply_states_from (history_verdicts config h) r rec (suc n) ts
-        → map (reply_state_of_mark (share config rec r) (share_verdicts config r (take i h) rec)) (if b then (record { number = n; carried = carried_by r t }) ∷ marks_from r (suc n) ts else marks_from r (suc n) ts)
-        ≡ (if b then (record { verdict = history_verdicts config h r rec.row n; carried = carried_by r t }) ∷ reply_states_from (history_verdicts config h) r rec (suc n) ts else reply_states_from (history_verdicts config h) r rec (suc n) ts)
+        → map (reply_state_of_mark (share config rec r) (share_verdicts config r (take i h) rec)) (if b then (record { number = n; carried = carried_to r t }) ∷ marks_from r (suc n) ts else marks_from r (suc n) ts)
+        ≡ (if b then (record { verdict = history_verdicts config h r rec.row n; carried = carried_to r t }) ∷ reply_states_from (history_verdicts config h) r rec (suc n) ts else reply_states_from (history_verdicts config h) r rec (suc n) ts)
     by true is rest =
-        let said : verdict_at (share config rec r) (share_verdicts config r (take i h) rec) n ≡ history_verdicts config h r rec.row n =
+        let said : verdict_or_conflict (share config rec r) (share_verdicts config r (take i h) rec) n ≡ history_verdicts config h r rec.row n =
         verdict_here config h r i n rec t at first (state_asks config rec r t is) ∙ ap (λ (k : ℕ). history_verdicts config h r k n) (sym row) in
-        λ j. (record { verdict = said j; carried = carried_by r t }) ∷ rest j
+        λ j. (record { verdict = said j; carried = carried_to r t }) ∷ rest j
     by false is rest = rest
 
 pub request_row_is : (config : Config) (h : List Record) (r i received : ℕ) (rec : Record) → IsHistory config h → slice_get h i ≡ Some rec →

@@ -16,7 +16,7 @@ use Rattle.model.specs.Transactions.{StampedTransaction, is_state_transaction, l
 use Rattle.model.specs.Records.{Record}
 use Rattle.model.specs.Metadata.{is_locked, metadata}
 use Rattle.model.specs.Journal.{history_verdicts, journal}
-use Rattle.model.specs.Outcomes.{joined_verdict, is_refused, outcome_by, outcome, outcomes}
+use Rattle.model.specs.Outcomes.{joined_verdict, is_refused, outcome_of_verdict, outcome, outcomes}
 use Rattle.model.specs.Serial.{Place, IsSerial}
 use Rattle.model.specs.Committed.{IsSerialByKeys, SerialIsByKeys, WritesLockRow, WritingTheLockRowIsOverlap, SerialKeepsTheLockRow, HistoriesKeepTheLockRow, ALockStopsPlainStateTransactions, CommittedIsTold, ToldNumbersAreItsOwn}
 use Rattle.model.proofs.Members.{Contains-from_Has, Has-append_right}
@@ -129,7 +129,7 @@ committed_is_told config h a = (
   λ told. let same : Some (outcome config (history_verdicts config h) (is_locked (metadata (journal config (history_verdicts config h) (take a.i h)))) a.rec a.n a.transaction) ≡ Some (Committed a.rec.version a.n) = sym (told_at config h a) ∙ told in cc,
 )
 
-numbers_of_outcome : (v : Verdict) (refused : Bool) (version number other_version other : ℕ) → outcome_by v refused version number ≡ Committed other_version other → (other_version ≡ version) × (other ≡ number)
+numbers_of_outcome : (v : Verdict) (refused : Bool) (version number other_version other : ℕ) → outcome_of_verdict v refused version number ≡ Committed other_version other → (other_version ≡ version) × (other ≡ number)
 numbers_of_outcome verdicts.Conflict refused version number other_version other e = absurd (cc)
 numbers_of_outcome verdicts.TooOld refused version number other_version other e = absurd (cc)
 numbers_of_outcome verdicts.Committed true version number other_version other e = absurd (cc)

@@ -16,7 +16,7 @@ use Rattle.model.specs.Shares.{asks, asked, each_below, read_bound}
 use Rattle.model.specs.Verdicts.{JudgedPart, has_some, is_too_old, is_after_snapshot, reads_a_write, committed_after, joined}
 use Rattle.model.specs.Metadata.{is_locked, metadata}
 use Rattle.model.specs.Journal.{history_verdicts, history_verdict_in_row, journal}
-use Rattle.model.specs.Outcomes.{joined_verdict, outcome_by, outcome}
+use Rattle.model.specs.Outcomes.{joined_verdict, outcome_of_verdict, outcome}
 use Rattle.model.specs.Serial.{Place, IsBetween, IsCommitted, seen_at, verdict_at_place}
 use Rattle.model.specs.Laws.Serializability.{HistoriesAreSerial}
 use Rattle.model.proofs.History.Growth.{Has-each_below}
@@ -33,7 +33,7 @@ use Rattle.model.proofs.Verdicts.ByPlaces.{verdict-from_HasConflictWith}
 joined_committed_at : (f : ℕ → Verdict) (rs : List ℕ) (r : ℕ) → joined (map f rs) ≡ verdicts.Committed → Has rs r → f r ≡ verdicts.Committed
 joined_committed_at f rs r e there = joined_committed (map f rs) (f r) e (Has-map f rs r there)
 
-outcome_by_committed : (v : Verdict) (refused : Bool) (version number : ℕ) → outcome_by v refused version number ≡ Committed version number → v ≡ verdicts.Committed
+outcome_by_committed : (v : Verdict) (refused : Bool) (version number : ℕ) → outcome_of_verdict v refused version number ≡ Committed version number → v ≡ verdicts.Committed
 outcome_by_committed verdicts.Conflict refused version number e = absurd (cc)
 outcome_by_committed verdicts.TooOld refused version number e = absurd (cc)
 outcome_by_committed verdicts.Committed refused version number e = refl

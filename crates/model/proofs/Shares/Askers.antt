@@ -10,7 +10,7 @@ use Rattle.model.specs.Transactions.{StampedTransaction, is_state_transaction}
 use Rattle.model.specs.Records.{Record}
 use Rattle.model.specs.Shares.{share_back_to, share, part_of, parts_from, asks, each_below}
 use Rattle.model.specs.Verdicts.{JudgedPart, judged_at, judged_before, verdict_of, verdicts_after, share_verdicts, verdicts_of_askers}
-use Rattle.model.specs.Journal.{VerdictSource, history_verdicts, history_verdict_in_row, history_verdict_in_record, verdict_at, list_at, cell_verdicts, state_of, states_from, journal_row, AgreeOn}
+use Rattle.model.specs.Journal.{VerdictSource, history_verdicts, history_verdict_in_row, history_verdict_in_record, verdict_or_conflict, list_at, cell_verdicts, state_of, states_from, journal_row, AgreeOn}
 
 -- ---- parts
 
@@ -97,7 +97,7 @@ share_part config rec r place part at =
 
 -- the verdict that stands at the number of a transaction that asks the resolver
 pub verdict_at_asker : (config : Config) (r : ℕ) (before : List Record) (rec : Record) (earlier ts : List StampedTransaction) (m k n : ℕ) (t : StampedTransaction) → m ≡ length earlier → n ≡ m + k → slice_get ts k ≡ Some t → asks config rec r t ≡ true →
-    verdict_at (parts_from config rec r m ts) (verdicts_of_askers config r before rec earlier ts) n ≡ verdict_of config r before rec (earlier ++ take k ts) t
+    verdict_or_conflict (parts_from config rec r m ts) (verdicts_of_askers config r before rec earlier ts) n ≡ verdict_of config r before rec (earlier ++ take k ts) t
 verdict_at_asker config r before rec earlier [] m k n t e number at asking = absurd (cc)
 verdict_at_asker config r before rec earlier (x ∷ ts) m zero n t e number at asking =
     let same : x ≡ t = cc in
@@ -106,8 +106,8 @@ verdict_at_asker config r before rec earlier (x ∷ ts) m zero n t e number at a
 verdict_at_asker config r before rec earlier (x ∷ ts) m (suc k) n t e number at asking =
     go (asks config rec r x) (verdict_at_asker config r before rec (earlier ++ x ∷ []) ts (suc m) k n t (omega (arith, length-append earlier (x ∷ []))) (omega arith) at asking)
   where
-    go : (b : Bool) → verdict_at (parts_from config rec r (suc m) ts) (verdicts_of_askers config r before rec (earlier ++ x ∷ []) ts) n ≡ verdict_of config r before rec ((earlier ++ x ∷ []) ++ take k ts) t →
-        verdict_at (if b then part_of config rec r m x ∷ parts_from config rec r (suc m) ts else parts_from config rec r (suc m) ts) (if b then verdict_of config r before rec earlier x ∷ verdicts_of_askers config r before rec (earlier ++ x ∷ []) ts else verdicts_of_askers config r before rec (earlier ++ x ∷ []) ts) n
+    go : (b : Bool) → verdict_or_conflict (parts_from config rec r (suc m) ts) (verdicts_of_askers config r before rec (earlier ++ x ∷ []) ts) n ≡ verdict_of config r before rec ((earlier ++ x ∷ []) ++ take k ts) t →
+        verdict_or_conflict (if b then part_of config rec r m x ∷ parts_from config rec r (suc m) ts else parts_from config rec r (suc m) ts) (if b then verdict_of config r before rec earlier x ∷ verdicts_of_askers config r before rec (earlier ++ x ∷ []) ts else verdicts_of_askers config r before rec (earlier ++ x ∷ []) ts) n
         ≡ verdict_of config r before rec (earlier ++ x ∷ take k ts) t
     go true later = rw (ne_eqb m n (λ (h : m ≡ n). omega arith), later, append_assoc)
     go false later = rw (later, append_assoc)

@@ -8,7 +8,7 @@ use Rattle.model.specs.declared.verdict.Verdict.TheVariants.{Conflict}
 use Rattle.model.specs.Transactions.{StampedTransaction}
 use Rattle.model.specs.Records.{Record}
 use Rattle.model.specs.Shares.{share}
-use Rattle.model.specs.Journal.{history_verdicts, history_verdict_in_row, history_verdict_in_record, verdict_at, list_at, cell_verdicts, cell_verdict_in_row}
+use Rattle.model.specs.Journal.{history_verdicts, history_verdict_in_row, history_verdict_in_record, verdict_or_conflict, list_at, cell_verdicts, cell_verdict_in_row}
 use Rattle.model.specs.Missing.{HasNoVerdict, NoRecordIsConflict, NoTransactionIsConflict, UnknownRecordIsConflict, NoVerdictInCellIsConflict, UnjudgedMarkIsConflict, NoVerdictIsToldAsConflict}
 
 -- ---- by a history
@@ -26,19 +26,19 @@ no_transaction_is_conflict config h r row number rec at none =
 -- ---- by verdict cells
 
 -- a number without a part
-no_part_is_conflict : (verdicts : List Verdict) (number : ℕ) → verdict_at [] verdicts number ≡ Conflict
+no_part_is_conflict : (verdicts : List Verdict) (number : ℕ) → verdict_or_conflict [] verdicts number ≡ Conflict
 no_part_is_conflict verdicts number = refl
 
 -- a part without a verdict
-short_cell_is_conflict : (part : Part) (parts : List Part) (number : ℕ) → verdict_at (part ∷ parts) [] number ≡ Conflict
+short_cell_is_conflict : (part : Part) (parts : List Part) (number : ℕ) → verdict_or_conflict (part ∷ parts) [] number ≡ Conflict
 short_cell_is_conflict part parts number = refl
 
-no_verdict_is_conflict : (parts : List Part) (verdicts : List Verdict) (number : ℕ) → HasNoVerdict parts verdicts number → verdict_at parts verdicts number ≡ Conflict
+no_verdict_is_conflict : (parts : List Part) (verdicts : List Verdict) (number : ℕ) → HasNoVerdict parts verdicts number → verdict_or_conflict parts verdicts number ≡ Conflict
 no_verdict_is_conflict [] verdicts number none = no_part_is_conflict verdicts number
 no_verdict_is_conflict (part ∷ parts) [] number none = short_cell_is_conflict part parts number
 no_verdict_is_conflict (part ∷ parts) (verdict ∷ verdicts) number none = by (nat_eq part.number number) refl (no_verdict_is_conflict parts verdicts number (λ place other at same. none (suc place) other at same))
   where
-    by : (b : Bool) → nat_eq part.number number ≡ b → verdict_at parts verdicts number ≡ Conflict → (if b then verdict else verdict_at parts verdicts number) ≡ Conflict
+    by : (b : Bool) → nat_eq part.number number ≡ b → verdict_or_conflict parts verdicts number ≡ Conflict → (if b then verdict else verdict_or_conflict parts verdicts number) ≡ Conflict
     by true here rest = let there : Some verdict ≡ None = none 0 part refl (eqb-true part.number number here) in absurd (cc)
     by false other rest = rest
 

@@ -5,7 +5,7 @@ use Rattle.std.specs.List.Sorted.{IsStrictlySortedBy}
 use Rattle.system_keys.specs.declared.change.Change.{Change}
 use Rattle.system_keys.specs.declared.change.Change.TheVariants.{Set, Clear}
 use Rattle.system_keys.specs.Keys.{Key, Range, holds, is_key_below, is_key_up_to}
-use Rattle.system_keys.specs.Families.{is_kept, key_servers_family}
+use Rattle.system_keys.specs.Families.{is_kept_key, key_servers_family}
 use Rattle.system_keys.specs.declared.location.Location.TheVariants as locations
 use Rattle.system_keys.specs.declared.tag.Tag.{Tag}
 use Rattle.system_keys.specs.Rows.{Servers}
@@ -61,7 +61,7 @@ JournalRowsAddKeptKeysAlone =
 -- a Set of a kept key puts its value there
 abbrev pub ASetPutsItsValue : Type 0
 ASetPutsItsValue =
-    (entries : Entries) (key : Key) (value : List ℕ) → IsTrue (is_kept key)
+    (entries : Entries) (key : Key) (value : List ℕ) → IsTrue (is_kept_key key)
     → entry_value (after_change entries (Set key value)) key ≡ Some value
 
 -- a Set changes no other key
@@ -73,7 +73,7 @@ ASetChangesNoOtherKey =
 -- a Set of a key that is not kept changes nothing
 abbrev pub ASetOfAnotherKeyChangesNothing : Type 0
 ASetOfAnotherKeyChangesNothing =
-    (entries : Entries) (key : Key) (value : List ℕ) → IsFalse (is_kept key)
+    (entries : Entries) (key : Key) (value : List ℕ) → IsFalse (is_kept_key key)
     → after_change entries (Set key value) ≡ entries
 
 -- a Clear removes each key of its range

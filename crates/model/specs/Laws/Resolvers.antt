@@ -21,7 +21,7 @@ use Rattle.model.specs.Acknowledged.{acknowledged_requests}
 use Rattle.model.specs.WriteHistories.{WriteHistoryView, ShareAt, StandsForShares, all_judged}
 use Rattle.model.specs.WriteHistories.{shares_of}
 use Rattle.model.specs.VersionOrder.{Increase}
-use Rattle.model.specs.ResolverMemory.{ResolverView, ProxyMemory, StandsForRequests, Course}
+use Rattle.model.specs.ResolverMemory.{ResolverView, ProxyMemory, StandsForRequests, Decision}
 use Rattle.model.specs.ResolverMemory.{GiveAgain, Judge, course, reply_by_memory, memory_after}
 
 -- the requests for some records to a resolver, where `received` is what each proxy had received
@@ -239,7 +239,7 @@ abbrev pub GreatestOfNoneIsZero : Type 0
 GreatestOfNoneIsZero = greatest [] ≡ 0
 
 -- the answer to a request on this course, which gets this reply if it is judged
-abbrev pub answer_on_course : (reply : Reply) → Result Course OfferFault → OfferResult
+abbrev pub answer_on_course : (reply : Reply) → Result Decision OfferFault → OfferResult
 answer_on_course reply (Ok (GiveAgain kept)) = Ok (Again kept)
 answer_on_course reply (Ok Judge) = Ok (Judged reply)
 answer_on_course reply (Err fault) = Err fault

@@ -31,7 +31,7 @@ ghost use Rattle.model.specs.Growing.{AllColumnsGainVerdicts, AllColumnsAreVerdi
 /// earlier row. It has the record and each resolver's cell of every row before. The journal that it
 /// knows has exactly these rows, and equals the journal of their history if the cells have the
 /// verdicts.
-pub fn agreed_law()
+pub fn agreed_view_law()
     ensures start { EmptyViewsAreAgreed }
     ensures fewer { AgreedUpToEarlierRows }
     ensures record_there { AgreedRowsHaveRecords }
@@ -45,7 +45,7 @@ pub fn agreed_law()
 /// record, the cells have the verdicts if they had them before. So for each history there are
 /// columns, one for each resolver, with which a view is agreed up to the end of the history and has
 /// the verdicts. They have a cell for each record, and gain those of the next one.
-pub fn growing_law()
+pub fn view_growth_law()
     ensures nothing { NoRecordsNeedNoVerdicts }
     ensures next_record { AgreedWithARecord }
     ensures any_cells { AgreedWithAnyCells }
@@ -67,7 +67,7 @@ pub fn column_growth_law()
 /// Columns that are cut down to the resolvers of the cluster and to the first rows have the same
 /// cells of these rows. Two holders that have the same records and cells of the first rows compute
 /// the same finished batch of each of these rows.
-pub fn meet_law()
+pub fn holders_agree_law()
     ensures same { ColumnsCutDownHaveSameCells }
     ensures finished { FinishedBatchesOfTwoHoldersMeet }
 {}
@@ -77,7 +77,7 @@ pub fn meet_law()
 /// one journal row. The cells say that a transaction is Committed exactly if it asks its resolver,
 /// and the cell has that verdict at the place of its part. A transaction that a history says is
 /// Committed is in the history.
-pub fn sources_law()
+pub fn agreeing_sources_law()
     ensures known { CellsSayTheHistorysVerdicts }
     ensures journal { AgreeingSourcesGiveOneJournalRow }
     ensures said { CommittedByCellsIsInTheCell }
@@ -88,7 +88,7 @@ pub fn sources_law()
 /// Two sources of verdicts that agree on a record give it the same outcomes and the same finished
 /// batch, after any journal before. If they agree on one resolver's verdicts, that resolver replies
 /// the same row of the record, and the same rows that a proxy has not seen.
-pub fn alike_law()
+pub fn agreeing_sources_finish_law()
     ensures outcomes { AgreeingSourcesGiveTheSameOutcomes }
     ensures finished { AgreeingSourcesGiveOneFinishedBatch }
     ensures row { AgreeingSourcesGiveOneReplyRow }
@@ -99,7 +99,7 @@ pub fn alike_law()
 /// the outcomes and the finished batches computed from the cells equal those of these rows'
 /// history. Of two holders that have the same records and cells of the first rows, the one with
 /// more rows has a journal that begins with the other's.
-pub fn cells_law()
+pub fn cells_equal_history_law()
     ensures journal { CellsGiveTheJournal }
     ensures outcomes { CellsGiveTheOutcomes }
     ensures finished { CellsGiveTheFinishedBatch }

@@ -18,7 +18,7 @@ ghost use Rattle.model.specs.Laws.History.{SeenAndUnseenAreAll};
 /// and its first records are a history. Each record stands at its row, no version is above the last
 /// one, and the records up to a version are the first ones. The sequencer's moves still follow
 /// after a record that has all of them, and after a further move to a resolver of the cluster.
-pub fn history_law()
+pub fn history_growth_law()
     ensures none { NoRecordsAreAHistory }
     ensures next { HistoriesGrow }
     ensures last { LastRecordFollows }
@@ -34,7 +34,7 @@ pub fn history_law()
 /// In a history the row of a record gives its numbers: its previous version is the row times the
 /// step, and its version is one step more, below 2^63. So versions increase, oldest versions never
 /// decrease, and the version of the same proxy's record before is at most the previous version.
-pub fn chain_law()
+pub fn version_chain_law()
     ensures before { VersionsAreMultiplesOfTheStep }
     ensures numbers { RowsGiveTheNumbers }
     ensures rise { VersionsIncrease }
@@ -43,13 +43,13 @@ pub fn chain_law()
 {}
 
 /// A record with the next numbers follows the history.
-pub fn next_law()
+pub fn next_record_law()
     ensures { NextNumbersFollow }
 {}
 
 /// If the step is at least 1, a version names a row: the records up to a version are the first
 /// rows, and different rows have different versions.
-pub fn rows_law()
+pub fn version_names_row_law()
     ensures first { FirstRowsByVersion }
     ensures front { CountOfRowsByVersion }
     ensures row { CountOfRowsByRecord }
@@ -60,12 +60,12 @@ pub fn rows_law()
 
 /// If the step is at least 1, a version that is a multiple of the step splits a history at a row:
 /// into the rows before it, and the records after the version.
-pub fn split_law()
+pub fn split_at_version_law()
     ensures { HistoriesSplitAtARow }
 {}
 
 /// The records of a history up to a version, and then those after it, are all of them in order. So
 /// a proxy's journal continues with the rows that it has not seen.
-pub fn unseen_law()
+pub fn seen_then_unseen_law()
     ensures { SeenAndUnseenAreAll }
 {}

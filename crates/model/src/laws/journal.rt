@@ -12,7 +12,7 @@ ghost use Rattle.model.specs.Laws.Journal.{ReplyRowsDetermineTheJournalRow};
 ghost use Rattle.model.specs.Laws.Journal.{UnseenRowsAreOfTheJournal};
 
 /// The journal of more records begins with the journal of the first ones, by one source of verdicts.
-pub fn journal_law()
+pub fn journal_prefix_law()
     ensures longer { JournalsContinue }
     ensures next { JournalsGrowByARow }
     ensures first { FirstRowsOfAJournal }
@@ -21,7 +21,7 @@ pub fn journal_law()
 /// A journal has exactly one row for each record, in order. The row has the record's version, and a
 /// verdict of each resolver for each of its transactions. With at least one resolver, rows that
 /// every resolver replies alike are equal.
-pub fn journal_rows_law()
+pub fn one_row_per_record_law()
     ensures count { JournalsAreAsLongAsTheirRecords }
     ensures row { RecordsHaveTheirJournalRows }
     ensures record_there { JournalRowsAreOfTheirRecords }
@@ -30,7 +30,7 @@ pub fn journal_rows_law()
 {}
 
 /// The rows of a journal up to a version are those of the records up to it.
-pub fn version_law()
+pub fn journal_up_to_version_law()
     ensures { JournalRowsUpToAVersion }
 {}
 

@@ -23,7 +23,7 @@ ghost use Rattle.model.specs.Laws.PrivateCopies.{OtherSetsHaveNoCopy, ClearsHave
 /// The entries of every metadata are in strict order of their keys, which are all kept ones. The
 /// metadata of a longer journal continues from what its first rows give. Each change, and so each row
 /// of a journal, keeps the order, and adds kept keys alone.
-pub fn fold_law()
+pub fn fold_keeps_order_law()
     ensures order { MetadataIsInOrder }
     ensures kept { MetadataKeysAreKept }
     ensures longer { MetadataContinues }
@@ -35,7 +35,7 @@ pub fn fold_law()
 
 /// What a change does at each key: a Set of a kept key puts its value there and changes no other
 /// key. A Set of another key changes nothing. A Clear removes the keys of its range and no others.
-pub fn change_law()
+pub fn change_at_key_law()
     ensures set { ASetPutsItsValue }
     ensures other { ASetChangesNoOtherKey }
     ensures not_kept { ASetOfAnotherKeyChangesNothing }
@@ -46,7 +46,7 @@ pub fn change_law()
 /// A state transaction is applied exactly if each of its verdicts is Committed, one for each
 /// resolver, and it is lock aware or the database is not locked. A row of a journal makes the
 /// changes that the lock before it lets through, in order, whatever its own transactions write.
-pub fn lock_law()
+pub fn lock_rule_law()
     ensures passes { AppliedIsCommittedAndUnlocked }
     ensures changes { ARowReadsTheLockBeforeIt }
 {}
@@ -66,7 +66,7 @@ pub fn serving_entry_law()
 /// of the keyServers entries that the change touches: an entry that names servers has the tags of
 /// these, and one that lists tags has them, whatever other entries there are. A Set touches the entry
 /// that serves its key, and a Clear those that serve some key of its range.
-pub fn tags_law()
+pub fn tags_of_change_law()
     ensures rising { TagsAreSortedAndDistinct }
     ensures exact { TagsAreOfTheTouchedRows }
     ensures of_servers { ARowOfServersHasTheirTags }
@@ -78,7 +78,7 @@ pub fn tags_law()
 /// Which changes have a private copy, and of which tag. A Set of a serverKeys row has exactly the copy
 /// for the server that its key names, if that server's serverTag row gives a tag. A Set of a
 /// serverTag row has exactly the copy for the tag that it sets. No other change has one.
-pub fn private_law()
+pub fn private_copy_law()
     ensures server_keys { ServerKeysGoToTheirServer }
     ensures server_tag { ServerTagsGoToTheirServer }
     ensures other { OtherSetsHaveNoCopy }

@@ -1,7 +1,7 @@
 //! Laws of moves, of the owners that they leave, and of maps that stand for them. No code: each
 //! function's contract is a law of the definitions.
 
-ghost use Rattle.model.specs.Laws.Owners.{OverlapIsTested, AsksWriteIsTested, AsksReadIsTested};
+ghost use Rattle.model.specs.Laws.Owners.{AsksWriteIsTested, AsksReadIsTested};
 ghost use Rattle.model.specs.Laws.Owners.{WalkTakesTheVisited, TrimmingRaisesTheBound};
 ghost use Rattle.model.specs.Laws.Owners.{TrimmingTwiceIsTrimmingOnce};
 ghost use Rattle.model.specs.Laws.Owners.{LaterRecordsHaveEarlierMoves, DatesOfOwnersNeverDecrease};
@@ -18,14 +18,9 @@ ghost use Rattle.model.specs.OwnerMaps.{StandingMapsAskAlike, MoveAddsOneToAsk};
 ghost use Rattle.model.specs.OwnerMaps.{ForgettingAsksAlike, ReadersAreThoseAsked};
 ghost use Rattle.model.specs.OwnerMaps.{WritersAreThoseAsked};
 
-/// Two ranges have a key in common exactly if one of their begins is in both.
-pub fn overlap_law()
-    ensures { OverlapIsTested }
-{}
-
 /// The finite tests `asks_write` and `asks_read` hold exactly if some key of the range, among all
 /// keys, is a witness.
-pub fn asked_law()
+pub fn finite_asking_tests_law()
     ensures writes { AsksWriteIsTested }
     ensures reads { AsksReadIsTested }
 {}
@@ -34,7 +29,7 @@ pub fn asked_law()
 /// decrease, the walk over a trimmed list is that of the greater of the bound and `oldest`.
 /// Trimming a list earlier, before newer owners came, does not change what is left when it is
 /// trimmed later.
-pub fn walk_law()
+pub fn walk_visits_law()
     ensures met { WalkTakesTheVisited }
     ensures front { TrimmingRaisesTheBound }
     ensures again { TrimmingTwiceIsTrimmingOnce }
@@ -44,7 +39,7 @@ pub fn walk_law()
 /// dated after the earlier record's version. The dates of the owners of a key never decrease, so a
 /// trimmed list is walked back to the greater of the snapshot and the oldest version. Each key has
 /// a resolver of the cluster as its last owner.
-pub fn owner_law()
+pub fn owners_of_history_law()
     ensures moves { LaterRecordsHaveEarlierMoves }
     ensures dates { DatesOfOwnersNeverDecrease }
     ensures front { TrimmedOwnersAreWalkedToTheOldest }
@@ -53,7 +48,7 @@ pub fn owner_law()
 
 /// In a history all moves of a record go to resolvers of the cluster, none is dated more than one
 /// after the version before, and their dates never decrease.
-pub fn moves_law()
+pub fn moves_of_history_law()
     ensures within { MovesAreWithinTheCluster }
     ensures rise { DatesOfMovesNeverDecrease }
 {}
@@ -61,7 +56,7 @@ pub fn moves_law()
 /// With at least one resolver, each that a walk over the owners of a key visits is of the cluster,
 /// and so is the last owner. A further move appends its destination to the owners of the keys in
 /// its range, and leaves those of other keys unchanged.
-pub fn visited_law()
+pub fn visited_resolvers_law()
     ensures met { VisitedResolversAreOfTheCluster }
     ensures last { LastOwnersAreOfTheCluster }
     ensures more { AMoveAppendsAnOwner }
@@ -70,14 +65,14 @@ pub fn visited_law()
 /// The walk back to a bound at or above `oldest` visits the same resolvers in a trimmed list, with
 /// any newer owners, as in the whole list, whatever the dates. Dates that never decrease still do
 /// not once the list is trimmed.
-pub fn trimmed_law()
+pub fn trimming_keeps_walks_law()
     ensures met { TrimmingKeepsTheWalk }
     ensures dates { TrimmingKeepsTheOrderOfDates }
 {}
 
 /// A map without moves stands for no moves. If each key gains the owner of a move, the map stands
 /// for one more move; if each key loses more of its front, it stands for the same moves.
-pub fn stand_law()
+pub fn map_stands_for_moves_law()
     ensures made { NewStandsForNoMoves }
     ensures moved { MoveAddsOneMove }
     ensures forgotten { ForgettingKeepsTheMoves }
@@ -86,7 +81,7 @@ pub fn stand_law()
 
 /// The resolvers that a map asks are those of the definition over every list of moves that the map
 /// stands for. So two maps that stand for the same moves, with the same bound, ask the same ones.
-pub fn stand_answers_law()
+pub fn map_asks_by_definition_law()
     ensures walks { LeftOwnersAreEnough }
     ensures reads { ReadersAreThoseOfTheMap }
     ensures writes { WritersAreThoseOfTheMap }
@@ -96,7 +91,7 @@ pub fn stand_answers_law()
 /// A map that stands for moves asks as they do. One that asks as some moves do goes on so when each
 /// key gains the owner of one more move, and when each key loses more of its front; and whom it
 /// asks are those whom the moves ask.
-pub fn asking_law()
+pub fn map_asks_as_moves_law()
     ensures stands { StandingMapsAskAlike }
     ensures moved { MoveAddsOneToAsk }
     ensures forgotten { ForgettingAsksAlike }

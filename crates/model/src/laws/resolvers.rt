@@ -26,7 +26,7 @@ ghost use Rattle.model.specs.Laws.Resolvers.{KeptRowsRise, KeptRepliesRise};
 /// What a resolver computes from the requests alone equals what the definitions say of the records:
 /// its verdicts on its share, the row of the record, its reply, and the requests whose rows it
 /// remembers.
-pub fn request_law()
+pub fn requests_tell_records_law()
     ensures verdicts { RequestVerdictsAreOfTheShare }
     ensures row { RequestRowsAreOfTheRecord }
     ensures reply { RequestRepliesAreOfTheRecord }
@@ -42,14 +42,14 @@ pub fn request_rule_law()
 
 /// What a world answers to an Offer is what the resolver answers by the requests that it has judged,
 /// and those came in their turn.
-pub fn offer_law()
+pub fn offer_answer_law()
     ensures answer { OffersAreAnsweredByRequests }
     ensures in_turn { JudgedRequestsCameInTurn }
 {}
 
 /// Only an Offer to it changes which requests a resolver has judged. An Offer that is judged adds its
 /// request, and any other Offer changes nothing.
-pub fn judged_law()
+pub fn judged_requests_law()
     ensures kept { OtherEventsLeaveTheJudged }
     ensures more { AJudgedOfferAddsItsRequest }
     ensures others { OtherOffersChangeNothing }
@@ -59,7 +59,7 @@ pub fn judged_law()
 /// is the last version of one of them. So what a resolver remembers before a record is enough to
 /// compute the rows that the record's proxy has not seen. With one record more it need only forget
 /// from what it remembered.
-pub fn memory_law()
+pub fn enough_rows_remembered_law()
     ensures each { OldestProxyVersionIsABound }
     ensures tight { OldestProxyVersionIsOfAProxy }
     ensures enough { RememberedRecordsAreEnough }
@@ -71,7 +71,7 @@ pub fn memory_law()
 /// reached is that of the proxy that is furthest behind, and the requests and rows above it are
 /// enough for a request of any proxy. With one request more, not below its proxy's last one, the
 /// resolver need only forget from what it remembered, and its rows grow by the new one.
-pub fn requests_memory_law()
+pub fn enough_requests_remembered_law()
     ensures each { OldestRequestVersionIsABound }
     ensures tight { OldestRequestVersionIsOfAProxy }
     ensures enough { RememberedRequestsAreEnough }
@@ -84,7 +84,7 @@ pub fn requests_memory_law()
 /// that proxy, among those that the resolver has judged, say that the proxy had received. The
 /// greatest number of a list that is not empty is in the list, and no number of the list is above
 /// it. The greatest of no numbers is 0.
-pub fn acknowledged_law()
+pub fn acknowledged_version_law()
     ensures requests { AcknowledgedIsByRequests }
     ensures bound { GreatestIsABound }
     ensures there { GreatestIsInTheList }
@@ -101,7 +101,7 @@ pub fn resolver_answer_law()
 
 /// A new resolver stands for no requests, and one that judges a request stands for one more. It keeps
 /// as many rows as requests are remembered, and rows and replies in the order of their versions.
-pub fn resolver_stands_law()
+pub fn resolver_stands_for_requests_law()
     ensures made { NewMemoryStandsForNoRequests }
     ensures judged { JudgingAddsARequest }
     ensures count { RowsAreOfTheRemembered }

@@ -1,5 +1,6 @@
 //! Laws of the rule of commit. No code: each function's contract is a law of the definitions.
 
+ghost use Rattle.model.specs.Laws.Owners.{OverlapIsTested};
 ghost use Rattle.model.specs.Laws.Serializability.{HistoriesAreSerial};
 ghost use Rattle.model.specs.Committed.{SerialIsByKeys, WritingTheLockRowIsOverlap};
 ghost use Rattle.model.specs.Committed.{SerialKeepsTheLockRow, HistoriesKeepTheLockRow};
@@ -24,4 +25,9 @@ pub fn lock_row_law()
     ensures serial { SerialKeepsTheLockRow }
     ensures histories { HistoriesKeepTheLockRow }
     ensures stopped { ALockStopsPlainStateTransactions }
+{}
+
+/// Two ranges have a key in common exactly if one of their begins is in both.
+pub fn overlap_by_begins_law()
+    ensures { OverlapIsTested }
 {}

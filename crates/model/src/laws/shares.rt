@@ -15,14 +15,14 @@ ghost use Rattle.model.specs.Laws.Shares.{RequestsAreJudgedAsShares, RequestVerd
 
 /// The verdicts of a resolver on its share of a record are its verdicts on the transactions that
 /// ask it, in order. Each part of the share is the part of such a transaction, by its number.
-pub fn share_law()
+pub fn verdicts_of_share_law()
     ensures parts { PartsAreOfAskers }
     ensures verdicts { ShareVerdictsAreOfAskers }
 {}
 
 /// The verdicts on some parts and then on others are those on all of them in a row. There is one
 /// verdict for each part, and so one for each part of a share.
-pub fn verdicts_law()
+pub fn verdicts_append_law()
     ensures longer { VerdictsContinue }
     ensures count { OneVerdictAPart }
     ensures of_share { OneVerdictAPartOfAShare }
@@ -31,14 +31,14 @@ pub fn verdicts_law()
 /// A resolver may forget the committed parts at or below a bound that is below the version of the
 /// part judged and at least the window behind it. The verdict is unchanged, and so are the
 /// committed parts above the bound after it.
-pub fn forget_law()
+pub fn forgetting_keeps_verdicts_law()
     ensures verdict { ForgettingKeepsTheVerdict }
     ensures committed { ForgettingKeepsLaterParts }
 {}
 
 /// The last committed version at each key decides every verdict: it is Conflict exactly if the part
 /// is not too old and reads a key at which that version is above its snapshot, or is its own.
-pub fn last_versions_law()
+pub fn last_versions_decide_law()
     ensures conflict { ConflictIsByLastVersions }
     ensures decided { LastVersionsDecideTheVerdict }
 {}

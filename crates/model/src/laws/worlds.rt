@@ -20,7 +20,7 @@ ghost use Rattle.model.specs.Laws.Worlds.{AFinishKeepsThePartsInStep};
 
 /// Whatever events come, the records are a history, and so they obey the rule of commit. The moves
 /// continue those of the last record. Each event keeps this, from any such world.
-pub fn run_law()
+pub fn run_keeps_history_law()
     ensures step { EventsKeepSoundness }
     ensures sound { RunsAreSound }
     ensures history { RunsLeaveAHistory }
@@ -29,14 +29,14 @@ pub fn run_law()
 
 /// The answers to some events, and then to others, are those to all of them in a row, and so is the
 /// world after them.
-pub fn events_law()
+pub fn events_append_law()
     ensures told { AnswersContinue }
     ensures world { WorldsContinue }
 {}
 
 /// Each finished batch, each reply and each repeated reply of a run belongs to its row of the final
 /// history, whatever came later.
-pub fn answers_law()
+pub fn answers_of_history_law()
     ensures completed { CompletedBatchesAreOfTheHistory }
     ensures judged { JudgedRepliesAreOfTheHistory }
     ensures again { RepeatedRepliesAreOfTheHistory }
@@ -44,7 +44,7 @@ pub fn answers_law()
 
 /// A refused event changes nothing. New resolvers and new proxies are in step with the world before
 /// the first event, and a move keeps all parts in step.
-pub fn turn_law()
+pub fn parts_in_step_law()
     ensures refused { RefusedEventsChangeNothing }
     ensures made { NewPartsAreInStep }
     ensures moved { AMoveKeepsThePartsInStep }
@@ -53,7 +53,7 @@ pub fn turn_law()
 /// If the cluster has such a proxy and a version is left, a batch gets the next record, and its
 /// proxy may begin that record. Once it has begun it, the parts are in step with the requests that it
 /// sent.
-pub fn sequenced_law()
+pub fn sequence_keeps_step_law()
     ensures given { TheBatchGetsItsRecord }
     ensures may { TheNextRecordMayBegin }
     ensures begun { ABegunRecordKeepsThePartsInStep }
@@ -62,7 +62,7 @@ pub fn sequenced_law()
 /// A resolver answers a request as the world does. If it judges the request, the row is the one after
 /// those that it has judged, and the parts stay in step. Its rows are those of the records that the
 /// world remembers for it.
-pub fn offered_law()
+pub fn offer_keeps_step_law()
     ensures answer { AResolverAnswersAsTheWorld }
     ensures next { AJudgedRowIsTheNext }
     ensures judged { AJudgedRequestKeepsThePartsInStep }
@@ -72,7 +72,7 @@ pub fn offered_law()
 /// A proxy that has begun no record finishes out of turn, and a resolver that has not judged the
 /// awaited record is missing. Otherwise the resolvers still keep their replies. The proxy does not
 /// refuse these, answers as the world does, and the parts stay in step.
-pub fn finished_turn_law()
+pub fn finish_keeps_step_law()
     ensures turn { AProxyWithoutRecordIsOutOfTurn }
     ensures missing { AMissingReplyIsNamed }
     ensures kept { RepliesAreKeptUntilTheFinish }

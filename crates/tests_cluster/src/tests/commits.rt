@@ -66,7 +66,7 @@ fn go_on<N: Naming, R: AllocGlobal + Wait>(
 
 /// Goes on once from what a failure left, which is that of an allocation. With ample memory there is
 /// none.
-fn go_on_after<N: Naming, A: Asking<N>, R: AllocGlobal + Wait>(
+fn go_on_after_fault<N: Naming, A: Asking<N>, R: AllocGlobal + Wait>(
     rt: &R,
     cluster: &Cluster<'_, N>,
     asking: &A,
@@ -113,7 +113,7 @@ fn commit_by<N: Naming, A: Asking<N>, R: AllocGlobal + Wait>(
 ) -> Commit {
     match commit_once(rt, cluster, asking, proxy, batch) {
         Ok(seen) => Ok(seen),
-        Err(fault) => go_on_after(rt, cluster, asking, proxy, fault),
+        Err(fault) => go_on_after_fault(rt, cluster, asking, proxy, fault),
     }
 }
 

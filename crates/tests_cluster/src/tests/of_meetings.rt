@@ -178,7 +178,7 @@ const LATER: Look = (
 );
 
 /// After the steps the proxies look so.
-fn look_so_after<N: Naming, R: Abort + AllocGlobal + Wait>(
+fn look_after_steps<N: Naming, R: Abort + AllocGlobal + Wait>(
     rt: &R,
     cluster: &Cluster<'_, N>,
     other: &SharedResolver<'_, N>,
@@ -198,9 +198,9 @@ fn look_three_times<N: Naming, R: Abort + AllocGlobal + Wait>(
     other: &SharedResolver<'_, N>,
     rows: &mut Vec<Phase<N>>,
 ) -> Result<(), Fail> {
-    look_so_after(rt, cluster, other, rows, RESOLVE, AT_THE_START)?;
-    look_so_after(rt, cluster, other, rows, FINISH_LATER, LATER)?;
-    look_so_after(rt, cluster, other, rows, FINISH_EARLIER, LATER)
+    look_after_steps(rt, cluster, other, rows, RESOLVE, AT_THE_START)?;
+    look_after_steps(rt, cluster, other, rows, FINISH_LATER, LATER)?;
+    look_after_steps(rt, cluster, other, rows, FINISH_EARLIER, LATER)
 }
 
 const TOO_EARLY: Refusal = Refusal::NotReached { version: 20 };

@@ -26,7 +26,7 @@ pub(crate) const ONE: &[Line<'static>] = &[(
 pub(crate) const BEGIN_ONE: &[Step] = &[(0, 0, None)];
 
 /// What a worker of resolver 0 is refused with that gets this end.
-fn misplaced<N: Naming, M: Channels>(
+fn refusal_of_misplaced_end<N: Naming, M: Channels>(
     alloc: Global,
     cluster: &Cluster<'_, N>,
     end: Option<FreshEnd<N, PendingRequest<N>, M>>,
@@ -39,7 +39,7 @@ fn misplaced<N: Naming, M: Channels>(
 }
 
 /// What proxy 0 is refused with that asks all resolvers for the record by the inboxes of another proxy.
-fn foreign_all<N: Naming, M: Channels, R: AllocGlobal + Wait>(
+fn refusal_of_foreign_inboxes<N: Naming, M: Channels, R: AllocGlobal + Wait>(
     rt: &R,
     cluster: &Cluster<'_, N>,
     side: &ProxyInboxes<N, M>,
@@ -61,12 +61,12 @@ fn are_refused<N: Naming, M: Channels, R: Abort + AllocGlobal + Wait>(
     let mut rows = rows;
     let asked = side.ask(rt, alloc, requests(rows.as_slice(), 0)).err();
     assert!(rt; asked == Some(Refusal::NotMine));
-    let asked = foreign_all(rt, cluster, side, &mut rows);
+    let asked = refusal_of_foreign_inboxes(rt, cluster, side, &mut rows);
     assert!(rt; asked == Some(Refusal::NotMine));
 }
 
 /// Ends come to another resolver, and requests are asked by another proxy.
-pub(crate) fn misplace<N: Naming, M: Channels, R: Abort + AllocGlobal + Wait>(
+pub(crate) fn misplace_ends<N: Naming, M: Channels, R: Abort + AllocGlobal + Wait>(
     rt: &R,
     alloc: Global,
     cluster: &Cluster<'_, N>,
@@ -75,7 +75,9 @@ pub(crate) fn misplace<N: Naming, M: Channels, R: Abort + AllocGlobal + Wait>(
     let rows = rows_after(rt, alloc, cluster, ONE, BEGIN_ONE)?;
     let Inboxes { ends, sides } = inboxes;
     let mut ends = ends;
-    assert!(rt; misplaced(alloc, cluster, ends.pop()) == Some(Refusal::WrongResolver));
+    assert!(rt;
+        refusal_of_misplaced_end(alloc, cluster, ends.pop()) == Some(Refusal::WrongResolver)
+    );
     let Some(side) = sides.last() else {
         return Err(Fail::from("there is no proxy"));
     };

@@ -126,7 +126,7 @@ pub(crate) fn own_batch(alloc: Global, number: usize) -> Result<Batch, Fail> {
 }
 
 /// The nine batches of a proxy.
-fn nine(alloc: Global, proxy: usize) -> Result<Vec<Batch>, Fail> {
+fn nine_batches(alloc: Global, proxy: usize) -> Result<Vec<Batch>, Fail> {
     let mut batches = room(alloc, OF_EACH)?;
     for number in 0..OF_EACH {
         batches.push(own_batch(alloc, OF_EACH.saturating_mul(proxy).saturating_add(number))?)?;
@@ -183,9 +183,9 @@ fn commit_by_three<N: Naming + Send + Sync, R: AllocGlobal + Threads + Wait + Sy
     alloc: Global,
     cluster: &Cluster<'_, N>,
 ) -> Result<[Rows; 3], Fail> {
-    let one = nine(alloc, 0)?;
-    let two = nine(alloc, 1)?;
-    let three = nine(alloc, 2)?;
+    let one = nine_batches(alloc, 0)?;
+    let two = nine_batches(alloc, 1)?;
+    let three = nine_batches(alloc, 2)?;
     let (first, (second, third)) = join(
         rt,
         || commit_all(rt, cluster, 0, one),
@@ -201,7 +201,7 @@ fn commit_by_three<N: Naming + Send + Sync, R: AllocGlobal + Threads + Wait + Sy
 }
 
 /// Whether each of the first 27 rows is of one of the 27 batches.
-fn are_all(rows: [Rows; 3]) -> bool {
+fn are_all_rows(rows: [Rows; 3]) -> bool {
     match rows {
         [Some(one), Some(two), Some(three)] => (one | two | three) == 0xfff_fffe,
         _ => false,
@@ -247,7 +247,7 @@ pub(crate) fn commit_and_close<
     N: Naming + Send + Sync,
     R: Abort + AllocGlobal + Threads + Wait + Sync,
 >(rt: &R, alloc: Global, cluster: &Cluster<'_, N>, last: Commit) -> Result<(), Fail> {
-    assert!(rt; are_all(commit_by_three(rt, alloc, cluster)?));
+    assert!(rt; are_all_rows(commit_by_three(rt, alloc, cluster)?));
     close_each(rt, alloc, cluster, [closed(280), closed(290), last])?;
     are_routed(rt, cluster, if last.is_ok() { 3 } else { 2 });
     Ok(())

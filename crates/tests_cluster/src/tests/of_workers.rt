@@ -101,13 +101,13 @@ fn ask_twice<N: Naming, M: Channels, R: AllocGlobal + Wait>(
     requests: &[Request<N>],
     side: &ProxyInboxes<N, M>,
 ) -> Called {
-    match asked_twice(rt, alloc, requests, side) {
+    match count_repeated_replies(rt, alloc, requests, side) {
         Ok(count) => Ok(count),
         Err(refusal) => Err(refusal.number().unwrap_or(0)),
     }
 }
 
-fn asked_twice<N: Naming, M: Channels, R: AllocGlobal + Wait>(
+fn count_repeated_replies<N: Naming, M: Channels, R: AllocGlobal + Wait>(
     rt: &R,
     alloc: Global,
     requests: &[Request<N>],
@@ -115,10 +115,10 @@ fn asked_twice<N: Naming, M: Channels, R: AllocGlobal + Wait>(
 ) -> Result<u64, Refusal> {
     let first = side.ask(rt, alloc, requests)?;
     let again = side.ask(rt, alloc, requests)?;
-    Ok(count_alike(first.as_slice(), again.as_slice()))
+    Ok(count_alike_replies(first.as_slice(), again.as_slice()))
 }
 
-fn count_alike<N: Naming>(first: &[NotedReply<N>], again: &[NotedReply<N>]) -> u64 {
+fn count_alike_replies<N: Naming>(first: &[NotedReply<N>], again: &[NotedReply<N>]) -> u64 {
     let mut count = 0_u64;
     for (one, other) in first.iter().zip(again) {
         count = count.saturating_add(u64::from(are_alike(one.value(), other.value())));
@@ -173,7 +173,7 @@ pub(crate) fn sum_of_run<
     let Inboxes { ends, sides } = inboxes;
     let started = serve(rt, alloc, &planned, ends, sides);
     let mut sum = summed_up(left, plan);
-    sum.closed_resolvers = closed_among(rt, cluster.resolvers());
+    sum.closed_resolvers = count_closed(rt, cluster.resolvers());
     if !started || 0 < sum.wanted_memory {
         return Err(Fail::from(OutOfMemory));
     }
@@ -181,7 +181,7 @@ pub(crate) fn sum_of_run<
 }
 
 /// How many of the resolvers are closed.
-fn closed_among<N: Naming, R: AllocGlobal + Wait>(
+fn count_closed<N: Naming, R: AllocGlobal + Wait>(
     rt: &R,
     resolvers: &[SharedResolver<'_, N>],
 ) -> usize {

@@ -132,7 +132,7 @@ fn go<N: Naming, R: AllocGlobal + Wait>(
 }
 
 /// The place of the first step that is not answered as it is to be.
-pub(crate) fn first_wrong<N: Naming, R: AllocGlobal + Wait>(
+pub(crate) fn first_wrong_step<N: Naming, R: AllocGlobal + Wait>(
     rt: &R,
     cluster: &Cluster<'_, N>,
     rows: &mut Vec<Phase<N>>,

@@ -3,7 +3,7 @@
 
 ghost use Rattle.std.specs.Prelude.{◌≡◌};
 
-use crate::tests::phases::{Phase, Step, first_wrong};
+use crate::tests::phases::{Phase, Step, first_wrong_step};
 use agreed_ledger::{BlankLedger, Ledger, Naming, Sequencer, Ticket};
 use inboxes::{BlankInboxes, Channels, FreshEnd, InboxRoom, ProxySenders};
 use locked_cluster::{Refusal, Request, SharedProxy, SharedResolver};
@@ -183,7 +183,7 @@ pub(crate) fn go_through<N: Naming, R: AllocGlobal + Wait>(
     rows: &mut Vec<Phase<N>>,
     steps: &[Step],
 ) -> Result<(), Fail> {
-    match first_wrong(rt, cluster, rows, steps) {
+    match first_wrong_step(rt, cluster, rows, steps) {
         None => Ok(()),
         Some(_) => Err(Fail::from("a phase is not answered as it is to be")),
     }

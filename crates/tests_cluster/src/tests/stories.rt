@@ -8,7 +8,7 @@ use crate::tests::of_gates::hold_back;
 use crate::tests::of_held_requests::ask_later_first;
 use crate::tests::of_meetings::meet_twice;
 use crate::tests::of_phases::go_in_odd_order;
-use crate::tests::of_refusals::misplace;
+use crate::tests::of_refusals::misplace_ends;
 use crate::tests::of_repeats::repeat;
 use crate::tests::of_resolvers::{Ask, are_numbered, ask_by_hand};
 use crate::tests::of_threads::{close_on_waiting, commit_and_close};
@@ -135,7 +135,7 @@ fn tell_with<
 {
     let inboxes = Inboxes::<N, M>::new(alloc, cluster.ledger, blank)?;
     match story {
-        InboxStory::Misplaced => misplace(rt, alloc, cluster, inboxes),
+        InboxStory::Misplaced => misplace_ends(rt, alloc, cluster, inboxes),
         InboxStory::Gated => hold_back(rt, alloc, cluster, inboxes),
         InboxStory::Repeated => repeat(rt, alloc, cluster, inboxes),
         InboxStory::LaterFirst => ask_later_first(rt, alloc, cluster, inboxes),

@@ -396,7 +396,7 @@ fn a_fold_script_of_three_rows_is_copied(rt: HostRuntime) -> Result<(), Fail> {
         read_fold(rt.alloc(), THREE_ROWS),
         ScriptFault::OutOfMemory
     )?;
-    assert_copied(&rt, &script, FoldScript::copy);
+    assert_copied(&rt, &script);
     Ok(())
 }
 

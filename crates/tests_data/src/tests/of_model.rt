@@ -2,8 +2,8 @@
 
 use super::assert_copied;
 use model::{
-    Carried, Config, Finished, JournalRow, Move, Outcome, Part, PrivateCopy, Refusal, Reply, Route,
-    Routing, StateMark, StateTxn, Tagged, UnseenRow, UnseenState, Verdict,
+    Config, Finished, Move, Outcome, PrivateCopy, Refusal, Route, Routing, StateMark, Tagged,
+    Verdict,
 };
 use std::test::Fail;
 use system_keys::Tag;
@@ -29,12 +29,12 @@ const CONTENT: Content<'static> = (
 #[test]
 fn contents_and_their_marks_are_copied(rt: HostRuntime) -> Result<(), Fail> {
     let carried = content_of_line(rt.alloc(), CONTENT)?;
-    assert_copied(&rt, &carried, Carried::copy);
+    assert_copied(&rt, &carried);
     let mark = StateMark {
         number: 1,
         carried: Some(carried),
     };
-    assert_copied(&rt, &mark, StateMark::copy);
+    assert_copied(&rt, &mark);
     Ok(())
 }
 
@@ -51,27 +51,27 @@ const REPLY: ReplyLine<'static> = ReplyLine {
 #[test]
 fn replies_and_their_rows_are_copied(rt: HostRuntime) -> Result<(), Fail> {
     let reply = reply(rt.alloc(), REPLY)?;
-    assert_copied(&rt, &reply, Reply::copy);
+    assert_copied(&rt, &reply);
     let row = reply.unseen.as_slice().first().expect(&rt, "a row");
-    assert_copied(&rt, row, UnseenRow::copy);
+    assert_copied(&rt, row);
     let state = row.states.as_slice().first().expect(&rt, "a state");
-    assert_copied(&rt, state, UnseenState::copy);
+    assert_copied(&rt, state);
     Ok(())
 }
 
 #[test]
 fn journal_rows_are_copied(rt: HostRuntime) -> Result<(), Fail> {
     let row = journal_row(rt.alloc(), 10, &[(&[Verdict::Conflict], CONTENT)])?;
-    assert_copied(&rt, &row, JournalRow::copy);
+    assert_copied(&rt, &row);
     let state = row.states.as_slice().first().expect(&rt, "a state");
-    assert_copied(&rt, state, StateTxn::copy);
+    assert_copied(&rt, state);
     Ok(())
 }
 
 #[test]
 fn parts_are_copied(rt: HostRuntime) -> Result<(), Fail> {
     let part = part(rt.alloc(), 1, (20, &[(b"m", b"t")], &[(b"a", b"b")]))?;
-    assert_copied(&rt, &part, Part::copy);
+    assert_copied(&rt, &part);
     Ok(())
 }
 
@@ -82,7 +82,7 @@ fn moves_are_copied(rt: HostRuntime) -> Result<(), Fail> {
         date: 21,
         dest: 1,
     };
-    assert_copied(&rt, &moved, Move::copy);
+    assert_copied(&rt, &moved);
     Ok(())
 }
 
@@ -94,14 +94,14 @@ fn routings_are_copied(rt: HostRuntime) -> Result<(), Fail> {
         key: bytes(rt.alloc(), b"m")?,
         tags,
     };
-    assert_copied(&rt, &route, Route::copy);
+    assert_copied(&rt, &route);
     let routing = Routing {
         version: 10,
         locked: true,
         metadata_version: Some(value),
         routes: one(rt.alloc(), route)?,
     };
-    assert_copied(&rt, &routing, Routing::copy);
+    assert_copied(&rt, &routing);
     Ok(())
 }
 
@@ -114,7 +114,7 @@ fn finished_batches_are_copied(rt: HostRuntime) -> Result<(), Fail> {
         value: bytes(rt.alloc(), b"1")?,
         tag: TAG,
     };
-    assert_copied(&rt, &private, PrivateCopy::copy);
+    assert_copied(&rt, &private);
     let tagged = Tagged {
         number: 1,
         place: 2,
@@ -122,14 +122,14 @@ fn finished_batches_are_copied(rt: HostRuntime) -> Result<(), Fail> {
         tags,
         private: Some(private),
     };
-    assert_copied(&rt, &tagged, Tagged::copy);
+    assert_copied(&rt, &tagged);
     let finished = Finished {
         row: 0,
         version: 10,
         outcomes,
         tagged: one(rt.alloc(), tagged)?,
     };
-    assert_copied(&rt, &finished, Finished::copy);
+    assert_copied(&rt, &finished);
     Ok(())
 }
 

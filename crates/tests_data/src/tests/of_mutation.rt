@@ -1,10 +1,7 @@
 //! Tests of mutation.
 
 use super::{are, assert_copied, is_range};
-use mutation::{
-    Admitted, AdmittedMutation, Batch, GivenRange, Mutation, Refusal, Stamped, Transaction, admit,
-    admit_owned,
-};
+use mutation::{Admitted, AdmittedMutation, Batch, Refusal, Stamped, admit, admit_owned};
 use std::alloc::Global;
 use std::test::Fail;
 use system_keys::{Change, KeyRange};
@@ -78,9 +75,9 @@ fn is_one_each(admitted: &Admitted) -> bool {
 fn an_admitted_transaction_is_as_it_was_given(rt: HostRuntime) -> Result<(), Fail> {
     let admitted = admit_line(rt.alloc(), ONE_EACH)?;
     assert!(rt; is_one_each(&admitted));
-    assert_copied(&rt, &admitted, Admitted::copy);
+    assert_copied(&rt, &admitted);
     for mutation in admitted.mutations() {
-        assert_copied(&rt, mutation, AdmittedMutation::copy);
+        assert_copied(&rt, mutation);
     }
     Ok(())
 }
@@ -267,7 +264,7 @@ fn a_stamp_takes_ten_bytes_and_every_other_field_stays(rt: HostRuntime) -> Resul
     assert!(rt; stamped.snapshot() == 7 && stamped.lock_aware());
     assert!(rt; are_ranges(stamped.reads(), stamped.writes()));
     assert!(rt; are_changes(stamped.changes()));
-    assert_copied(&rt, &stamped, Stamped::copy);
+    assert_copied(&rt, &stamped);
     Ok(())
 }
 
@@ -284,11 +281,11 @@ fn an_own_transaction_is_stamped_alike(rt: HostRuntime) -> Result<(), Fail> {
 #[test]
 fn given_transactions_are_copied(rt: HostRuntime) -> Result<(), Fail> {
     let given = transaction(rt.alloc(), ONE_EACH)?;
-    assert_copied(&rt, &given, Transaction::copy);
+    assert_copied(&rt, &given);
     let read = given.reads.as_slice().first().expect(&rt, "a read");
-    assert_copied(&rt, read, GivenRange::copy);
+    assert_copied(&rt, read);
     for mutation in given.mutations.as_slice() {
-        assert_copied(&rt, mutation, Mutation::copy);
+        assert_copied(&rt, mutation);
     }
     Ok(())
 }
@@ -300,7 +297,7 @@ fn batches_are_copied(rt: HostRuntime) -> Result<(), Fail> {
         &[EMPTY_TRANSACTION, EMPTY_TRANSACTION, ONE_EACH],
     )?;
     assert!(rt; matches!(batch.transactions(), [_, _, last] if are_mutations(last.mutations())));
-    assert_copied(&rt, &batch, Batch::copy);
+    assert_copied(&rt, &batch);
     Ok(())
 }
 

@@ -4,10 +4,10 @@ use super::{assert_alike, assert_copied, is_range};
 use std::alloc::{AllocError, Global};
 use std::test::Fail;
 use system_keys::{
-    Bytes, Change, KeyRange, Location, OrderedKey, OutOfMemory, RowFault, RowKind, ServerId, Tag,
-    TagTeams, TagTeamsFault, Teams, TeamsFault, classify, decode_key_servers, decode_location,
-    decode_tag, encode_key_servers, encode_tag, encode_tag_teams, is_state, print_bytes,
-    read_bytes,
+    Bytes, Change, Items, KeyRange, Location, OrderedKey, OutOfMemory, RowFault, RowKind, ServerId,
+    SharedItems, Tag, TagTeams, TagTeamsFault, Teams, TeamsFault, classify, decode_key_servers,
+    decode_location, decode_tag, encode_key_servers, encode_tag, encode_tag_teams, is_state,
+    print_bytes, read_bytes,
 };
 use testing::{MutationLine, bytes, change, list, range, room, twice};
 
@@ -70,11 +70,11 @@ fn ranges_that_touch_do_not_overlap(rt: HostRuntime) -> Result<(), Fail> {
 #[test]
 fn a_copy_is_equal(rt: HostRuntime) -> Result<(), Fail> {
     let key = bytes(rt.alloc(), b"abc")?;
-    assert_copied(&rt, &key, Bytes::copy);
+    assert_copied(&rt, &key);
     let range = range(rt.alloc(), b"b", b"d")?;
-    assert_copied(&rt, &range, KeyRange::copy);
-    assert_copied(&rt, &Change::clear(range), Change::copy);
-    assert_copied(&rt, &ServerId(SERVER_1), ServerId::copy);
+    assert_copied(&rt, &range);
+    assert_copied(&rt, &Change::clear(range));
+    assert_copied(&rt, &ServerId(SERVER_1));
     let tag = Tag {
         locality: 3,
         id: 258,
@@ -97,7 +97,7 @@ fn sets_a(change: &Change) -> bool {
 fn a_set_is_made_and_copied(rt: HostRuntime) -> Result<(), Fail> {
     let set = Change::set(list(rt.alloc(), b"a")?, list(rt.alloc(), b"1")?)?;
     assert!(rt; sets_a(&set));
-    assert_copied(&rt, &set, Change::copy);
+    assert_copied(&rt, &set);
     Ok(())
 }
 
@@ -199,7 +199,7 @@ fn decoded(alloc: Global, value: &[u8]) -> Result<Teams, RowFault> {
 fn teams_of_255_servers_are_copied_and_have_a_value(rt: HostRuntime) -> Result<(), Fail> {
     let teams = many_teams(rt.alloc())?;
     assert!(rt; teams.sources().len() == 255 && teams.destinations().len() == 2);
-    assert_copied(&rt, &teams, Teams::copy);
+    assert_copied(&rt, &teams);
     let value = encoded(rt.alloc(), &teams).expect(&rt, "a value");
     assert!(rt; value.len() == 2 + 16 * 257);
     let read = decoded(rt.alloc(), &value).expect(&rt, "teams");
@@ -277,7 +277,7 @@ fn listed_tags_rise_and_are_few_enough(rt: HostRuntime) -> Result<(), Fail> {
 }
 
 /// 255 source tags and 255 destination tags.
-fn many_listed(alloc: Global) -> Result<TagTeams, Fail> {
+fn many_listed_tags(alloc: Global) -> Result<TagTeams, Fail> {
     let sources = many_tags(alloc, 255)?;
     let destinations = many_tags(alloc, 255)?;
     match TagTeams::new(sources, destinations) {
@@ -290,19 +290,19 @@ fn encoded_tags(alloc: Global, teams: &TagTeams) -> Result<Vec<u8>, OutOfMemory>
     twice!(alloc; encode_tag_teams(alloc, teams), OutOfMemory)
 }
 
-fn located(alloc: Global, value: &[u8]) -> Result<Location, RowFault> {
+fn location_of_value(alloc: Global, value: &[u8]) -> Result<Location, RowFault> {
     twice!(alloc; decode_location(alloc, value), RowFault::OutOfMemory)
 }
 
 #[test]
 fn lists_of_255_tags_are_copied_and_have_a_value(rt: HostRuntime) -> Result<(), Fail> {
-    let teams = many_listed(rt.alloc())?;
+    let teams = many_listed_tags(rt.alloc())?;
     assert!(rt; teams.sources().len() == 255 && teams.destinations().len() == 255);
-    assert_copied(&rt, &teams, TagTeams::copy);
+    assert_copied(&rt, &teams);
     let value = encoded_tags(rt.alloc(), &teams).expect(&rt, "a value");
     assert!(rt; value.len() == 4 + 3 * 510);
-    let location = located(rt.alloc(), &value).expect(&rt, "a location");
-    assert_copied(&rt, &location, Location::copy);
+    let location = location_of_value(rt.alloc(), &value).expect(&rt, "a location");
+    assert_copied(&rt, &location);
     assert_alike(&rt, &location, &Location::Tags(teams));
     Ok(())
 }
@@ -327,27 +327,42 @@ fn is_listing(location: &Location) -> bool {
 }
 
 /// How many servers a location names, or else how many tags it lists.
-fn counted(location: &Location) -> Result<usize, usize> {
+fn count_servers_or_tags(location: &Location) -> Result<usize, usize> {
     match location {
         Location::Servers(teams) => Ok(teams.sources().len() + teams.destinations().len()),
         Location::Tags(teams) => Err(teams.sources().len() + teams.destinations().len()),
     }
 }
 
+/// Whether `LISTING` is the value of the tags that the location lists.
+fn has_value_listing(alloc: Global, location: &Location) -> Result<bool, OutOfMemory> {
+    match location {
+        Location::Servers(_) => Ok(false),
+        Location::Tags(teams) => {
+            let value = encoded_tags(alloc, teams)?;
+            Ok(value.as_slice() == LISTING.as_slice())
+        }
+    }
+}
+
+/// Whether the location of `LISTING` lists its tags, and has that value again.
+fn is_listing_again(alloc: Global) -> Result<bool, Fail> {
+    let listing = location_of_value(alloc, &LISTING)?;
+    Ok(is_listing(&listing) && has_value_listing(alloc, &listing)?)
+}
+
+/// How many servers the location of the value names, or else how many tags it lists.
+fn count_in_value(alloc: Global, value: &[u8]) -> Result<Result<usize, usize>, RowFault> {
+    let location = location_of_value(alloc, value)?;
+    Ok(count_servers_or_tags(&location))
+}
+
 #[test]
 fn a_location_is_that_of_the_vectors(rt: HostRuntime) -> Result<(), Fail> {
-    let listing = located(rt.alloc(), &LISTING)?;
-    assert!(rt; is_listing(&listing));
-    if let Location::Tags(teams) = &listing {
-        let value = encoded_tags(rt.alloc(), teams)?;
-        assert!(rt; value.as_slice() == LISTING.as_slice());
-    }
-    let one = located(rt.alloc(), &ONE_SOURCE)?;
-    assert!(rt; counted(&one) == Ok(1));
-    let none = located(rt.alloc(), b"\x00\x00")?;
-    assert!(rt; counted(&none) == Ok(0));
-    let no_tags = located(rt.alloc(), b"\x00\x00\x00\x00")?;
-    assert!(rt; counted(&no_tags) == Err(0));
+    assert!(rt; is_listing_again(rt.alloc())?);
+    assert!(rt; count_in_value(rt.alloc(), &ONE_SOURCE)? == Ok(1));
+    assert!(rt; count_in_value(rt.alloc(), b"\x00\x00")? == Ok(0));
+    assert!(rt; count_in_value(rt.alloc(), b"\x00\x00\x00\x00")? == Err(0));
     Ok(())
 }
 
@@ -421,15 +436,35 @@ const TEXTS: &[(&[u8], &str)] = &[
     (b" \"\\\x00\x7f", "\\x20\\x22\\x5c\\x00\\x7f"),
 ];
 
+/// One call for the text of the bytes.
+fn text_by_call(alloc: Global, bytes: &[u8]) -> Result<String, OutOfMemory> {
+    print_bytes(alloc, bytes)
+}
+
+/// Whether the bytes are printed as this text, which is made again after a failed allocation.
+fn is_printed(alloc: Global, bytes: &[u8], text: &str) -> Result<bool, OutOfMemory> {
+    let printed = twice!(alloc; text_by_call(alloc, bytes), OutOfMemory)?;
+    Ok(printed.as_str() == text)
+}
+
+/// One call for the bytes of the text.
+fn bytes_by_call(alloc: Global, text: &str) -> Result<Vec<u8>, RowFault> {
+    read_bytes(alloc, text)
+}
+
+/// Whether the text is read as these bytes, which are made again after a failed allocation.
+fn is_read(alloc: Global, text: &str, bytes: &[u8]) -> Result<bool, RowFault> {
+    let read = twice!(alloc; bytes_by_call(alloc, text), RowFault::OutOfMemory)?;
+    Ok(read.as_slice() == bytes)
+}
+
 #[test]
 fn bytes_have_one_text(rt: HostRuntime) -> Result<(), Fail> {
     for (bytes, text) in TEXTS {
-        let printed = twice!(rt.alloc(); print_bytes(rt.alloc(), *bytes), OutOfMemory)?;
-        assert!(rt; printed.as_str() == *text);
-        let read = twice!(rt.alloc(); read_bytes(rt.alloc(), *text), RowFault::OutOfMemory)?;
-        assert!(rt; read.as_slice() == *bytes);
+        assert!(rt; is_printed(rt.alloc(), *bytes, *text)?);
+        assert!(rt; is_read(rt.alloc(), *text, *bytes)?);
     }
-    assert!(rt; read_bytes(rt.alloc(), "\\xFF").err() == Some(RowFault::BadText));
+    assert!(rt; bytes_by_call(rt.alloc(), "\\xFF").err() == Some(RowFault::BadText));
     Ok(())
 }
 
@@ -499,7 +534,39 @@ fn ordered_keys_are_in_the_order_of_their_bytes(rt: HostRuntime) -> Result<(), F
         let key = twice!(rt.alloc(); OrderedKey::new(rt.alloc(), *bytes), OutOfMemory)?;
         assert!(rt; key.as_slice() == *bytes);
         assert!(rt; is_in_place(rt.alloc(), &key, place)?);
-        assert_copied(&rt, &key, OrderedKey::copy);
+        assert_copied(&rt, &key);
     }
+    Ok(())
+}
+
+/// One call for a shared list of the numbers.
+fn shared_numbers(alloc: Global, numbers: &[u64]) -> Result<SharedItems<u64>, OutOfMemory> {
+    SharedItems::new(alloc, Items::from(Vec::from_slice(alloc, numbers)?))
+}
+
+/// Whether the list gives its numbers away.
+fn gives_away(numbers: SharedItems<u64>, expected: &[u64]) -> bool {
+    match numbers.try_into_items() {
+        Ok(numbers) => numbers.as_slice() == expected,
+        Err(_numbers) => false,
+    }
+}
+
+/// Whether the list keeps its numbers, since a copy has them too.
+fn keeps(numbers: SharedItems<u64>, expected: &[u64]) -> bool {
+    match numbers.try_into_items() {
+        Ok(_numbers) => false,
+        Err(numbers) => numbers.as_slice() == expected,
+    }
+}
+
+#[test]
+fn a_shared_list_is_given_away_by_its_last_copy(rt: HostRuntime) -> Result<(), Fail> {
+    let numbers = twice!(rt.alloc(); shared_numbers(rt.alloc(), &[3, 1, 2]), OutOfMemory)?;
+    let copy = twice!(rt.alloc(); numbers.copy(), OutOfMemory)?;
+    assert!(rt; copy.as_slice() == [3, 1, 2].as_slice());
+    assert!(rt; keeps(copy, &[3, 1, 2]));
+    assert!(rt; numbers.as_slice() == [3, 1, 2].as_slice());
+    assert!(rt; gives_away(numbers, &[3, 1, 2]));
     Ok(())
 }

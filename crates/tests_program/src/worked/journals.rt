@@ -65,7 +65,7 @@ const STORIES: &[Story] = &[
     },
 ];
 
-fn letter(verdict: Verdict) -> char {
+fn verdict_letter(verdict: Verdict) -> char {
     match verdict {
         Verdict::Conflict => 'f',
         Verdict::TooOld => 'o',
@@ -81,7 +81,7 @@ fn push_row(text: &mut String, alloc: Global, row: &JournalRow) -> Result<(), Al
     for state in row.states.as_slice() {
         text.push(':')?;
         for verdict in state.verdicts.as_slice() {
-            text.push(letter(*verdict))?;
+            text.push(verdict_letter(*verdict))?;
         }
     }
     Ok(())
@@ -102,7 +102,7 @@ fn journal_text(alloc: Global, world: &TurnWorld, proxy: usize) -> Result<String
 }
 
 /// How many versions the resolver of this number remembers.
-fn remembered_by(world: &TurnWorld, number: usize) -> usize {
+fn count_remembered(world: &TurnWorld, number: usize) -> usize {
     match world.resolver(number) {
         Some(resolver) => resolver.remembered(),
         None => 0,
@@ -134,7 +134,7 @@ fn carry_out<R: Abort + AllocGlobal>(
             "{name}"
         );
         if let Some(counts) = wanted(story, number) {
-            let found = [remembered_by(world, 0), remembered_by(world, 1)];
+            let found = [count_remembered(world, 0), count_remembered(world, 1)];
             assert!(rt; found == counts, "{name}: after event {number}");
         }
     }

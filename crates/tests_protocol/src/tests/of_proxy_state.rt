@@ -12,7 +12,7 @@ use proxy_state::{Replies, Verdict};
 use std::alloc::Global;
 use std::test::Fail;
 use system_keys::{OutOfMemory, Tag};
-use testing::{ReplyLine, reply_by, twice};
+use testing::{ReplyLine, reply_with_content, twice};
 
 pub(crate) const LOCK: &[u8] = b"\xff/dbLocked";
 
@@ -50,7 +50,7 @@ fn put_all(
     lines: &[ReplyLine<'_>],
 ) -> Result<(), Fail> {
     for line in lines {
-        let reply = reply_by(alloc, carriers.contains(&line.resolver), *line)?;
+        let reply = reply_with_content(alloc, carriers.contains(&line.resolver), *line)?;
         if let Err((refusal, _)) = replies.put(reply) {
             return Err(Fail::from(refusal));
         }

@@ -84,7 +84,7 @@ fn told(answer: &Result<Answer, Refusal>) -> Told {
 /// Steps, each with what it is told.
 type Story = &'static [(Step, Told)];
 
-/// Proxy 0 finishes two batches, and proxy 1 has begun one.
+/// Proxy 0 finishes two batches, a resolver repeats a reply to one, and proxy 1 has begun another.
 const STORY: Story = &[
     (Offer(0, 0), Err(Refusal::NoSuchRow)),
     (Sequence(0, &[TAGS]), Ok(10)),
@@ -98,6 +98,7 @@ const STORY: Story = &[
     (Offer(1, 1), Ok(20)),
     (Finish(0), Ok(10)),
     (Finish(0), Ok(20)),
+    (Offer(1, 1), Ok(20)),
     (Finish(1), Err(Refusal::MissingReply { resolver: 0 })),
 ];
 

@@ -148,7 +148,7 @@ fn finish_first<N: Naming, R: Wait>(
 }
 
 /// The request for row 1, which proxy 0 begins, and that for row 0, which it has finished before.
-fn next_and_stale<N: Naming, R: Abort + Wait>(
+fn next_and_stale_requests<N: Naming, R: Abort + Wait>(
     rt: &R,
     alloc: Global,
     cluster: &Cluster<'_, N>,
@@ -167,7 +167,7 @@ pub(crate) fn ask_again_later<N: Naming, R: Abort + Wait>(
     cluster: &Cluster<'_, N>,
 ) -> Result<(), Fail> {
     let resolver = cluster.resolver(0)?;
-    let both = next_and_stale(rt, alloc, cluster)?;
+    let both = next_and_stale_requests(rt, alloc, cluster)?;
     assert!(rt; resolve(rt, resolver, both.as_slice(), 0) == Ok((20, 1)));
     let given_up = Refusal::GivenUp { acknowledged: 10 };
     assert!(rt; resolve(rt, resolver, both.as_slice(), 1) == Err(given_up));

@@ -3,7 +3,7 @@
 ghost use Rattle.std.specs.Prelude.{◌≡◌, IfSome};
 ghost use Rattle.once_cell.specs.Once.{cell_name};
 
-use facts::{Fact, Stretch, Unset};
+use facts::{Fact, NotSet, Stretch};
 use once_cell::race::OnceBox;
 use std::alloc::Global;
 use std::test::Fail;
@@ -14,10 +14,10 @@ use testing::twice;
 /// that came back.
 type Refused = (bool, u64);
 
-fn is_taken(why: &Unset<Fact<u64>>) -> bool {
+fn is_taken(why: &NotSet<Fact<u64>>) -> bool {
     match why {
-        Unset::OutOfMemory => false,
-        Unset::Taken(_) => true,
+        NotSet::OutOfMemory => false,
+        NotSet::Taken(_) => true,
     }
 }
 

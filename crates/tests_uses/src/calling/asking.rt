@@ -10,7 +10,7 @@ use std::sync::Wait;
 use std::sync::atomic::{AtomicU64, Ordering};
 use std::test::Fail;
 use testing_cluster::{Cluster, begin_batch, blank};
-use uses::{ask_each, offer_and_look, offer_twice, resolve_again, resolve_and_look};
+use uses::{ask_each, offer_and_look, offer_twice, resolve_and_look, resolve_with_one_retry};
 
 /// Asks all resolvers, but fails the first time as if an allocation had failed.
 #[derive(Drop)]
@@ -96,7 +96,7 @@ fn ask_again<N: Naming, R: Wait>(
 ) -> Result<usize, Refusal> {
     let asking = cluster.asking()?;
     let failing = SecondTime::new(&asking);
-    match resolve_again(rt, cluster.proxy(0)?, &failing, begun) {
+    match resolve_with_one_retry(rt, cluster.proxy(0)?, &failing, begun) {
         Ok(ready) => Ok(ready.row()),
         Err((refusal, _begun)) => Err(refusal),
     }

@@ -13,7 +13,7 @@ use std::sync::Wait;
 use std::test::Fail;
 use testing::batch;
 use testing_cluster::{Cluster, blank, number};
-use uses::{Refused, commit_or_go_on, commit_two, tags_after};
+use uses::{Refused, commit_and_resume_once, commit_two, tags_after_journal};
 
 /// Commits both batches of proxy 0.
 fn commit_both<N: Naming, A: Asking<N>, R: Wait>(
@@ -41,7 +41,7 @@ pub(crate) fn committed<N: Naming, A: Asking<N>, R: Wait>(
     let Ok(proxy) = cluster.proxy(proxy) else {
         return Err(Refused::ByCluster(Refusal::NoSuchProxy));
     };
-    commit_or_go_on(rt, proxy, &cluster.sequencer, asking, batch)
+    commit_and_resume_once(rt, proxy, &cluster.sequencer, asking, batch)
 }
 
 /// Commits the batch of the proxy, and looks at its answer.
@@ -80,7 +80,7 @@ fn is_tagged<N: Naming, R: Wait>(
     alloc: Global,
     cluster: &Cluster<'_, N>,
 ) -> Result<bool, Fail> {
-    let tags = tags_after(alloc, cluster.proxy(2)?.lock(rt).journal(), b"k")?;
+    let tags = tags_after_journal(alloc, cluster.proxy(2)?.lock(rt).journal(), b"k")?;
     Ok(tags.as_slice() == [TAG].as_slice())
 }
 

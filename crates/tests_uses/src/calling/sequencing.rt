@@ -11,14 +11,14 @@ use std::test::Fail;
 use system_keys::KeyRange;
 use testing::{batch, range};
 use testing_cluster::{Cluster, blank, sequence_batch};
-use uses::{record_of, sequence_around_move, sequence_two};
+use uses::{record_of_ticket, sequence_around_move, sequence_two};
 
 /// What a test compares of a record: its row, its proxy, its version, and how many moves and
 /// transactions it has.
 type Told = (usize, usize, u64, usize, usize);
 
 fn told<N: Naming>(ledger: &Ledger<N>, ticket: &Ticket<N>) -> Told {
-    let rec = record_of(ledger, ticket);
+    let rec = record_of_ticket(ledger, ticket);
     let moves = rec.moves().len();
     (
         rec.row(),

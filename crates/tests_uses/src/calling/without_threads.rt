@@ -6,7 +6,9 @@ use std::alloc::Global;
 use std::test::Fail;
 use testing::{batch, room};
 use turn_world::{Answer, Event, Refusal, TurnWorld};
-use uses::{at_one_version, metadata_after, numbers_of, run_on, step_of};
+use uses::{
+    config_of_cluster, metadata_after, metadata_if_same_version, run_and_resume_once, step_of,
+};
 
 /// A batch of proxy 0 gets row 0, both resolvers judge it, and the proxy finishes it.
 fn events(alloc: Global) -> Result<Vec<Event>, Fail> {
@@ -32,7 +34,7 @@ fn run(
     cluster: &mut TurnWorld,
     events: &[Event],
 ) -> Result<(usize, Option<u64>), usize> {
-    match run_on(cluster, alloc, events) {
+    match run_and_resume_once(cluster, alloc, events) {
         Ok(answers) => Ok((answers.len(), last_version(answers.as_slice()))),
         Err(stopped) => Err(stopped.carried_out),
     }
@@ -47,7 +49,7 @@ fn last_version(answers: &[Result<Answer, Refusal>]) -> Option<u64> {
 
 /// The rows that two proxies have, if they are at one version.
 fn rows_at_one_version(cluster: &TurnWorld) -> Option<([bool; 2], [bool; 2])> {
-    let (zero, one) = at_one_version(cluster, 0, 1)?;
+    let (zero, one) = metadata_if_same_version(cluster, 0, 1)?;
     Some((has_rows(zero), has_rows(one)))
 }
 
@@ -70,11 +72,11 @@ fn a_cluster_is_run_by_events_and_read(rt: HostRuntime) -> Result<(), Fail> {
     let config = Config::new(2, 2, 1000, 10)?;
     let events = events(alloc)?;
     let mut cluster = TurnWorld::new(alloc, &config)?;
-    assert!(rt; (numbers_of(&cluster) == config, step_of(&cluster)) == (true, 10));
+    assert!(rt; (config_of_cluster(&cluster) == config, step_of(&cluster)) == (true, 10));
     assert!(rt; rows_at_one_version(&cluster) == Some(([false; 2], [false; 2])));
     assert!(rt; run(alloc, &mut cluster, events.as_slice()) == Ok((4, Some(10))));
     assert!(rt; rows_at_one_version(&cluster).is_none());
-    assert!(rt; at_one_version(&cluster, 0, 2).is_none());
+    assert!(rt; metadata_if_same_version(&cluster, 0, 2).is_none());
     let (zero, one) = (Some([true, false]), Some([false, false]));
     assert!(rt; rows_after(alloc, &config, events.as_slice(), 0)? == zero);
     assert!(rt; rows_after(alloc, &config, events.as_slice(), 1)? == one);

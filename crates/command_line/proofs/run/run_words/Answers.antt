@@ -1,15 +1,15 @@
-use Rattle.std.proofs.Common.{◌≡◌, ◌≢◌, ◌∙◌, Global, List, [], Option, Some, String, ap, inr, refl, subst, sym}
+use Rattle.std.proofs.Common.{◌≡◌, ◌≢◌, ◌∙◌, Global, List, [], Option, Some, String, ap, inl, inr, refl, subst, sym}
 use Rattle.command_line.specs.WordRuns.{RunsMode}
 use Rattle.std.specs.Prelude.{Err, string_bytes}
 use Rattle.clap.specs.Words.{Text, fault_of}
-use Rattle.mode_choice.specs.Choices.{ChoosesMode}
-use Rattle.mode_choice.specs.CommandLine.{command_line}
-use Rattle.mode_choice.specs.Rejections.{IsTextOf, RejectsBy}
-use Rattle.mode_choice.specs.declared.choosing.Rejection.{Rejection}
-use Rattle.mode_choice.specs.declared.choosing.Rejection.TheVariants.{Words}
-use Rattle.mode_choice.specs.declared.mode.Mode.{Mode}
-use Rattle.mode_choice.specs.declared.mode.Mode.TheVariants.{Fold, Turns, Threads}
-use Rattle.command_line.proofs.KnownRuns.{fold_line_folds, rejected_line_rejected, threads_line_commits, turns_line_plays}
+use Rattle.command_line.specs.Choices.{ChoosesMode}
+use Rattle.command_line.specs.CommandLine.{command_line}
+use Rattle.command_line.specs.Rejections.{IsTextOf, RejectsBy}
+use Rattle.command_line.specs.declared.choosing.Rejection.{Rejection}
+use Rattle.command_line.specs.declared.choosing.Rejection.TheVariants.{Words}
+use Rattle.command_line.specs.declared.mode.Mode.{Mode}
+use Rattle.command_line.specs.declared.mode.Mode.TheVariants.{Fold, Turns, Threads}
+use Rattle.command_line.proofs.KnownRuns.{runs_by_words}
 use Rattle.command_line.proofs.run.run_words.Goals as goal
 
 -- the mode that was given ran
@@ -25,88 +25,63 @@ told_by words given text given_text chosen is same some =
     subst (λ (t : String Global). IsTextOf faults (string_bytes t)) (sym same)
     (subst (λ (r : Rejection). RejectsBy faults (Err r)) is (chosen.told some))
 
-pub returns-in-Ok-Fold-clause-mode : goal.returns-in-Ok-Fold-clause-mode
-returns-in-Ok-Fold-clause-mode g c =
+pub returns-in-Ok-Fold-clause-run : goal.returns-in-Ok-Fold-clause-run
+returns-in-Ok-Fold-clause-run g c =
     let chosen = c.in-Ok-Fold.ensures in
-    record {
+    runs_by_words _ _ _ _ _ _ _ _
+    (record {
       names = chosen.names;
       refused = λ some. let bad = chosen.refused some in cc;
       taken = λ none. inr (runs_given _ Fold _ (chosen.taken none ∙ ap (λ mode. Some mode) c.in-Ok-Fold.field-0-is)
           (record { text = c.run_fold.ensures.fold; devices = c.run_fold.ensures.devices }));
-    }
+    })
 
-pub returns-in-Ok-Turns-clause-mode : goal.returns-in-Ok-Turns-clause-mode
-returns-in-Ok-Turns-clause-mode g c =
+pub returns-in-Ok-Turns-clause-run : goal.returns-in-Ok-Turns-clause-run
+returns-in-Ok-Turns-clause-run g c =
     let chosen = c.in-Ok-Turns.ensures in
-    record {
+    runs_by_words _ _ _ _ _ _ _ _
+    (record {
       names = chosen.names;
       refused = λ some. let bad = chosen.refused some in cc;
       taken = λ none. inr (runs_given _ Turns _ (chosen.taken none ∙ ap (λ mode. Some mode) c.in-Ok-Turns.field-0-is)
           (record { text = c.run_turns.ensures.turns; devices = c.run_turns.ensures.devices }));
-    }
+    })
 
-pub returns-in-Ok-Threads-clause-mode : goal.returns-in-Ok-Threads-clause-mode
-returns-in-Ok-Threads-clause-mode g c =
+pub returns-in-Ok-Threads-clause-run : goal.returns-in-Ok-Threads-clause-run
+returns-in-Ok-Threads-clause-run g c =
     let chosen = c.in-Ok-Threads.ensures in
-    record {
+    runs_by_words _ _ _ _ _ _ _ _
+    (record {
       names = chosen.names;
       refused = λ some. let bad = chosen.refused some in cc;
       taken = λ none. inr (runs_given _ Threads _ (chosen.taken none ∙ ap (λ mode. Some mode) c.in-Ok-Threads.field-0-is) c.run_threads.ensures);
-    }
+    })
 
-pub returns-in-Err-Words-clause-mode : goal.returns-in-Err-Words-clause-mode
-returns-in-Err-Words-clause-mode g c =
+pub returns-in-Err-Words-clause-run : goal.returns-in-Err-Words-clause-run
+returns-in-Err-Words-clause-run g c =
     let chosen = c.in-Err-Words.ensures in
-    record {
+    runs_by_words _ _ _ _ _ _ _ _
+    (record {
       names = chosen.names;
       refused = λ some. (told_by _ _ _ _ chosen c.in-Err-Words.field-0-is c.in-Err-Words.text-is some, (refl, refl));
       taken = λ none. let bad = chosen.taken none in cc;
-    }
+    })
 
-pub returns-in-Ok-Fold-clause-turns : goal.returns-in-Ok-Fold-clause-turns
-returns-in-Ok-Fold-clause-turns g c = turns_line_plays _ _ _ _ (returns-in-Ok-Fold-clause-mode g c)
-
-pub returns-in-Ok-Fold-clause-rejected : goal.returns-in-Ok-Fold-clause-rejected
-returns-in-Ok-Fold-clause-rejected g c = rejected_line_rejected _ _ _ _ (returns-in-Ok-Fold-clause-mode g c)
+pub returns-in-Err-OutOfMemory-clause-run : goal.returns-in-Err-OutOfMemory-clause-run
+returns-in-Err-OutOfMemory-clause-run g c =
+    let chosen = c.in-Err-OutOfMemory.ensures in
+    runs_by_words _ _ _ _ _ _ _ _
+    (record {
+      names = chosen.names;
+      refused = λ some. (refl, (refl, refl));
+      taken = λ none. inl (refl, (refl, refl));
+    })
 
 pub returns-in-Ok-Fold-clause-devices : goal.returns-in-Ok-Fold-clause-devices
 returns-in-Ok-Fold-clause-devices g c = (Fold, c.run_fold.ensures.devices)
 
-pub returns-in-Ok-Fold-clause-threads : goal.returns-in-Ok-Fold-clause-threads
-returns-in-Ok-Fold-clause-threads g c = threads_line_commits _ _ _ _ (returns-in-Ok-Fold-clause-mode g c)
-
-pub returns-in-Ok-Threads-clause-fold : goal.returns-in-Ok-Threads-clause-fold
-returns-in-Ok-Threads-clause-fold g c = fold_line_folds _ _ _ _ (returns-in-Ok-Threads-clause-mode g c)
-
-pub returns-in-Ok-Threads-clause-turns : goal.returns-in-Ok-Threads-clause-turns
-returns-in-Ok-Threads-clause-turns g c = turns_line_plays _ _ _ _ (returns-in-Ok-Threads-clause-mode g c)
-
-pub returns-in-Ok-Threads-clause-rejected : goal.returns-in-Ok-Threads-clause-rejected
-returns-in-Ok-Threads-clause-rejected g c = rejected_line_rejected _ _ _ _ (returns-in-Ok-Threads-clause-mode g c)
-
-pub returns-in-Ok-Threads-clause-devices : goal.returns-in-Ok-Threads-clause-devices
-returns-in-Ok-Threads-clause-devices g c = (Threads, (c.run_threads.ensures.answer, c.run_threads.ensures.devices))
-
-pub returns-in-Ok-Turns-clause-threads : goal.returns-in-Ok-Turns-clause-threads
-returns-in-Ok-Turns-clause-threads g c = threads_line_commits _ _ _ _ (returns-in-Ok-Turns-clause-mode g c)
-
-pub returns-in-Err-Words-clause-rejected : goal.returns-in-Err-Words-clause-rejected
-returns-in-Err-Words-clause-rejected g c = rejected_line_rejected _ _ _ _ (returns-in-Err-Words-clause-mode g c)
-
-pub returns-in-Err-Words-clause-threads : goal.returns-in-Err-Words-clause-threads
-returns-in-Err-Words-clause-threads g c = threads_line_commits _ _ _ _ (returns-in-Err-Words-clause-mode g c)
-
-pub returns-in-Ok-Turns-clause-fold : goal.returns-in-Ok-Turns-clause-fold
-returns-in-Ok-Turns-clause-fold g c = fold_line_folds _ _ _ _ (returns-in-Ok-Turns-clause-mode g c)
-
-pub returns-in-Ok-Turns-clause-rejected : goal.returns-in-Ok-Turns-clause-rejected
-returns-in-Ok-Turns-clause-rejected g c = rejected_line_rejected _ _ _ _ (returns-in-Ok-Turns-clause-mode g c)
-
 pub returns-in-Ok-Turns-clause-devices : goal.returns-in-Ok-Turns-clause-devices
 returns-in-Ok-Turns-clause-devices g c = (Turns, c.run_turns.ensures.devices)
 
-pub returns-in-Err-Words-clause-fold : goal.returns-in-Err-Words-clause-fold
-returns-in-Err-Words-clause-fold g c = fold_line_folds _ _ _ _ (returns-in-Err-Words-clause-mode g c)
-
-pub returns-in-Err-Words-clause-turns : goal.returns-in-Err-Words-clause-turns
-returns-in-Err-Words-clause-turns g c = turns_line_plays _ _ _ _ (returns-in-Err-Words-clause-mode g c)
+pub returns-in-Ok-Threads-clause-devices : goal.returns-in-Ok-Threads-clause-devices
+returns-in-Ok-Threads-clause-devices g c = (Threads, (c.run_threads.ensures.answer, c.run_threads.ensures.devices))

@@ -5,11 +5,10 @@ use Rattle.model.specs.Metadata.{Entries, entry_tags}
 use Rattle.metadata.specs.ServerTables.{GiveTags}
 use Rattle.metadata.proofs.GatheredTags.{tags_gathered}
 use Rattle.metadata.specs.MapEntries.{entry_from, entries_of, is_serving_inside}
-use Rattle.metadata.specs.CachedTags.{KeyNames, names_at, names_by}
 use Rattle.metadata.proofs.Tags.{added}
-use Rattle.metadata.proofs.KeptTags.{rows_passing, key_servers_passing, row_first, own_first, rows_rest, own_rest, names_shown_at, row_added}
+use Rattle.metadata.proofs.KeptTags.{rows_passing, rows_rest, row_added}
 use Rattle.metadata.specs.HiddenRuns.{Run, is_serving_after}
-use Rattle.metadata.proofs.HiddenRuns.{whole_back, back_stepped, inside_rows, IsJumpOn, jump_on, jump_on_fewer, one_run, run_inside, own_after}
+use Rattle.metadata.proofs.HiddenRuns.{whole_back, back_stepped, inside_rows, IsJumpOn, jump_on, jump_on_fewer, one_run, run_inside}
 use Rattle.metadata.proofs.ServingEntries.{is_left, tags_left, inside_next}
 use Rattle.metadata.proofs.tagging.add_tags_inside.Goals as goal
 
@@ -19,84 +18,70 @@ loop-key-init c =
     record {
       added = ap (added c.args.tags.now.keys) (tags_left c.args.entries.now c.entries.inside.entries.now c.entries.inside.hidden.now c.in_ok-inside.inside c.args.range.now found c.entries.view_is);
       rows = rows_passing c.entries.inside.entries.now (is_serving_inside c.args.range.now) c.in_ok-inside.inside c.serving_inside.ensures.order found;
-      own = key_servers_passing c.entries.inside.entries.now _ c.in_ok-inside.inside found;
       back = whole_back c.in_ok-inside.inside (inside_rows c.args.range.now c.entries.inside.entries.now) found;
       order = c.serving_inside.ensures.order;
-      kept = c.new-kept.ensures;
     }
 
 pub loop-key-preserved : goal.loop-key-preserved
 loop-key-preserved c =
-    let entry : Vec ℕ × List ℕ = (c.in-Some.key.now, c.in-Some.field-0-1.now) in
+    let entry : Vec ℕ × List ℕ = (c.in-Some.key.now, c.in-Some.row.now) in
     let steps = c.in-Some.ensures.steps in
     let view = c.args.entries.now in
     let servers = c.entries.inside.servers.now.tags in
-    let rows = row_first c.entries.inside.entries.now entry c.next.new.self c.loop-key.inside steps c.loop-key.invariant.rows in
-    let own = own_first entry c.next.new.self c.loop-key.inside steps c.loop-key.invariant.own in
     let so_far =
     inside_next view (entries_of c.next.new.self) c.entries.inside.hidden.now (entry_from entry) c.loop-key.tags.keys c.add_unless_hidden.new.tags.keys _
     (λ hides. c.in_ok-add_unless_hidden.ensures.hides hides)
     (λ shows.
-    c.in_ok-add_unless_hidden.ensures.shows (names_by c.in-Some.field-0-1.now) shows
-    (ap (λ (rows : List KeyNames). names_at rows c.in-Some.key.now.items) c.loop-key.invariant.kept
-    ∙ names_shown_at c.entries.inside.hidden.now c.entries.inside.entries.now (names_at c.entries.inside.tags.now) (entry_from entry) c.entries.invariant.0 shows rows own)
-    ∙ ap (added c.loop-key.tags.keys) (tags_gathered servers view c.in-Some.field-0-1.now (subst (GiveTags servers) c.entries.view_is c.entries.invariant.2))
+    c.in_ok-add_unless_hidden.ensures.shows shows
+    ∙ ap (added c.loop-key.tags.keys) (c.new-row_tags.ensures ∙ tags_gathered servers view c.in-Some.row.now (subst (GiveTags servers) c.entries.view_is c.entries.invariant.1))
     ∙ row_added view c.loop-key.tags.keys (entry_from entry))
     (ap (λ (es : List (Vec ℕ × List ℕ)). added c.loop-key.tags.keys (flat_map (entry_tags view) (filter (is_left c.entries.inside.hidden.now) (entries_of es)))) (sym steps) ∙ c.loop-key.invariant.added) in
     record {
       added = so_far;
       rows = rows_rest c.entries.inside.entries.now entry c.next.new.self c.loop-key.inside steps c.loop-key.invariant.rows;
-      own = own_rest entry c.next.new.self c.loop-key.inside steps c.loop-key.invariant.own;
       back = back_stepped entry c.next.new.self c.loop-key.inside (inside_rows c.args.range.now c.entries.inside.entries.now) steps c.loop-key.invariant.back;
       order = c.loop-key.invariant.order;
-      kept = c.add_unless_hidden.ensures.kept ∙ c.loop-key.invariant.kept;
     }
 
 -- the entries after the last key of the run that the entry is in
 jump : (c : goal.In_ok-inside-2) → IsJumpOn c.entries.inside.hidden.now c.entries.inside.entries.now c.args.range.now c.next.new.self c.in_ok-inside-2.inside
 jump c =
-    let entry : Vec ℕ × List ℕ = (c.in-Some.key.now, c.in-Some.field-0-1.now) in
+    let entry : Vec ℕ × List ℕ = (c.in-Some.key.now, c.in-Some.row.now) in
     let run : Run = (c.in-Some-run_of.field-0-0.now.items, c.in-Some-run_of.last.now.items) in
     let rows = c.entries.inside.entries.now in
     jump_on c.entries.inside.hidden.now rows c.args.range.now c.next.new.self c.in_ok-inside-2.inside c.loop-key.inside entry run c.loop-key.invariant.order c.in-Some.ensures.steps c.loop-key.invariant.back
     (rows_rest rows entry c.next.new.self c.loop-key.inside c.in-Some.ensures.steps c.loop-key.invariant.rows)
-    (one_run c.entries.inside.hidden.now rows c.entries.inside.runs.now run c.entries.invariant.1 c.in-Some-run_of.ensures.listed)
+    (one_run c.entries.inside.hidden.now rows c.entries.inside.runs.now run c.entries.invariant.0 c.in-Some-run_of.ensures.listed)
     c.in-Some-run_of.ensures.begins c.in-Some-run_of.ensures.reaches c.in_ok-inside-2.ensures
 
 pub loop-key-preserved-in-Some-run_of : goal.loop-key-preserved-in-Some-run_of
 loop-key-preserved-in-Some-run_of c =
-    let entry : Vec ℕ × List ℕ = (c.in-Some.key.now, c.in-Some.field-0-1.now) in
+    let entry : Vec ℕ × List ℕ = (c.in-Some.key.now, c.in-Some.row.now) in
     let steps = c.in-Some.ensures.steps in
     let view = c.args.entries.now in
     let servers = c.entries.inside.servers.now.tags in
-    let rows = row_first c.entries.inside.entries.now entry c.next.new.self c.loop-key.inside steps c.loop-key.invariant.rows in
-    let own = own_first entry c.next.new.self c.loop-key.inside steps c.loop-key.invariant.own in
     let so_far =
     inside_next view (entries_of c.next.new.self) c.entries.inside.hidden.now (entry_from entry) c.loop-key.tags.keys c.add_unless_hidden.new.tags.keys _
     (λ hides. c.in_ok-add_unless_hidden.ensures.hides hides)
     (λ shows.
-    c.in_ok-add_unless_hidden.ensures.shows (names_by c.in-Some.field-0-1.now) shows
-    (ap (λ (rows : List KeyNames). names_at rows c.in-Some.key.now.items) c.loop-key.invariant.kept
-    ∙ names_shown_at c.entries.inside.hidden.now c.entries.inside.entries.now (names_at c.entries.inside.tags.now) (entry_from entry) c.entries.invariant.0 shows rows own)
-    ∙ ap (added c.loop-key.tags.keys) (tags_gathered servers view c.in-Some.field-0-1.now (subst (GiveTags servers) c.entries.view_is c.entries.invariant.2))
+    c.in_ok-add_unless_hidden.ensures.shows shows
+    ∙ ap (added c.loop-key.tags.keys) (c.new-row_tags.ensures ∙ tags_gathered servers view c.in-Some.row.now (subst (GiveTags servers) c.entries.view_is c.entries.invariant.1))
     ∙ row_added view c.loop-key.tags.keys (entry_from entry))
     (ap (λ (es : List (Vec ℕ × List ℕ)). added c.loop-key.tags.keys (flat_map (entry_tags view) (filter (is_left c.entries.inside.hidden.now) (entries_of es)))) (sym steps) ∙ c.loop-key.invariant.added) in
     record {
       added = ap (λ (list : Entries). added c.add_unless_hidden.new.tags.keys (flat_map (entry_tags view) list)) (jump c).left ∙ so_far;
       rows = rows_passing c.entries.inside.entries.now (is_serving_after c.in-Some-run_of.last.now.items c.args.range.now) c.in_ok-inside-2.inside c.loop-key.invariant.order c.in_ok-inside-2.ensures;
-      own = own_after c.entries.inside.entries.now c.in-Some-run_of.last.now.items c.args.range.now c.in_ok-inside-2.inside c.in_ok-inside-2.ensures;
       back = (jump c).back_is;
       order = c.loop-key.invariant.order;
-      kept = c.add_unless_hidden.ensures.kept ∙ c.loop-key.invariant.kept;
     }
 
 pub loop-key-smaller-in-Some-run_of : goal.loop-key-smaller-in-Some-run_of
 loop-key-smaller-in-Some-run_of c =
-    jump_on_fewer c.entries.inside.hidden.now c.entries.inside.entries.now c.args.range.now c.next.new.self c.in_ok-inside-2.inside c.loop-key.inside (c.in-Some.key.now, c.in-Some.field-0-1.now) (jump c) c.in-Some.ensures.steps
+    jump_on_fewer c.entries.inside.hidden.now c.entries.inside.entries.now c.args.range.now c.next.new.self c.in_ok-inside-2.inside c.loop-key.inside (c.in-Some.key.now, c.in-Some.row.now) (jump c) c.in-Some.ensures.steps
 
 pub serving_after-requires : goal.serving_after-requires
 serving_after-requires c =
-    run_inside c.entries.inside.entries.now c.args.range.now (c.in-Some.key.now, c.in-Some.field-0-1.now) c.next.new.self c.loop-key.inside c.in-Some-run_of.last.now.items c.in-Some.ensures.steps c.loop-key.invariant.back c.in-Some-run_of.ensures.reaches
+    run_inside c.entries.inside.entries.now c.args.range.now (c.in-Some.key.now, c.in-Some.row.now) c.next.new.self c.loop-key.inside c.in-Some-run_of.last.now.items c.in-Some.ensures.steps c.loop-key.invariant.back c.in-Some-run_of.ensures.reaches
 
 pub returns : goal.returns
 returns c = ap (λ (es : List (Vec ℕ × List ℕ)). added c.loop-key.tags.keys (flat_map (entry_tags c.args.entries.now) (filter (is_left c.entries.inside.hidden.now) (entries_of es)))) (sym c.in_default.ensures.steps.0) ∙ c.loop-key.invariant.added

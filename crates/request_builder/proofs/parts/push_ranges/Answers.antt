@@ -16,4 +16,4 @@ stepped r i range ranges lists before copies after b there is so_far is_b after_
 
 pub loop-number-preserved : goal.loop-number-preserved
 loop-number-preserved c =
-    stepped c.args.resolver c.loop-number.number c.index-ranges-number.result c.args.ranges.now c.args.sets.now c.args.copies.now.items c.loop-number.copies.items c.push_if.new.copies.items c.is_asked.result (omega arith) c.index-ranges-number.is c.loop-number.invariant c.is_asked.ensures c.in_ok-push_if.ensures
+    stepped c.args.resolver c.loop-number.number c.index-ranges-number.result c.args.ranges.now c.args.sets.now c.args.copies.now.items c.loop-number.copies.items c.push_if_asked.new.copies.items c.is_asked.result (omega arith) c.index-ranges-number.is c.loop-number.invariant c.is_asked.ensures c.in_ok-push_if_asked.ensures

@@ -7,7 +7,7 @@ use proxy_state::{Refusal, Replies, Verdict, join};
 use std::alloc::Global;
 use std::process::Abort;
 use std::test::Fail;
-use system_keys::OutOfMemory;
+use system_keys::{OutOfMemory, SharedItems};
 use testing::none;
 
 /// Each refusal with the number and the name that are printed.
@@ -59,15 +59,15 @@ fn the_least_verdict_is_the_answer(rt: HostRuntime) {
 }
 
 /// A reply to row 0 without verdicts. The proxy's number tells it from others.
-fn reply_of(alloc: Global, resolver: usize, proxy: usize) -> Reply {
-    Reply {
+fn reply_of(alloc: Global, resolver: usize, proxy: usize) -> Result<Reply, Fail> {
+    Ok(Reply {
         resolver,
         proxy,
         row: 0,
         version: 10,
         verdicts: none(alloc),
-        unseen: none(alloc),
-    }
+        unseen: SharedItems::new(alloc, none(alloc))?,
+    })
 }
 
 const DOUBLE_0: Refusal = Refusal::DoubleReply { resolver: 0 };
@@ -99,12 +99,13 @@ fn refused(replies: &mut Replies, reply: Reply) -> Option<(Refusal, usize, usize
 }
 
 /// The replies are put, and each that is refused comes back.
-fn put_each<R: Abort + AllocGlobal>(rt: &R, replies: &mut Replies, puts: Puts) {
+fn put_each<R: Abort + AllocGlobal>(rt: &R, replies: &mut Replies, puts: Puts) -> Result<(), Fail> {
     for (place, (resolver, refusal)) in puts.iter().enumerate() {
-        let refused = refused(replies, reply_of(rt.alloc(), *resolver, place));
+        let refused = refused(replies, reply_of(rt.alloc(), *resolver, place)?);
         let wanted = refusal.map(|refusal| (refusal, *resolver, place));
         assert!(rt; refused == wanted, "reply {place}");
     }
+    Ok(())
 }
 
 impl Copied for Replies {
@@ -115,11 +116,10 @@ impl Copied for Replies {
 
 /// A copy is filled alone, and the replies after it.
 fn fills_alone<R: Abort + AllocGlobal>(rt: &R, replies: &mut Replies) -> Result<(), Fail> {
-    put_each(rt, replies, FIRST);
+    put_each(rt, replies, FIRST)?;
     let mut copy = copy_of(rt.alloc(), replies)?;
-    put_each(rt, &mut copy, REST);
-    put_each(rt, replies, REST);
-    Ok(())
+    put_each(rt, &mut copy, REST)?;
+    put_each(rt, replies, REST)
 }
 
 #[test]

@@ -6,7 +6,7 @@ ghost use Rattle.facts.specs.Stretches.{end_of};
 ghost use Rattle.agreed_ledger.specs.Cells.{verdict_cells};
 
 use agreed_ledger::{Column, Ledger, Naming, Records, Refusal, VerdictNote};
-use facts::Unset;
+use facts::NotSet;
 use share_judge::Verdict;
 use share_judge::Verdict::{Committed, Conflict, TooOld};
 use std::alloc::Global;
@@ -114,10 +114,10 @@ fn shown<N: Naming>(
 }
 
 /// The answer if the cell was taken.
-fn if_taken<N: Naming>(why: &Unset<VerdictNote<N>>, answer: bool) -> Option<bool> {
+fn if_taken<N: Naming>(why: &NotSet<VerdictNote<N>>, answer: bool) -> Option<bool> {
     match why {
-        Unset::OutOfMemory => None,
-        Unset::Taken(_) => Some(answer),
+        NotSet::OutOfMemory => None,
+        NotSet::Taken(_) => Some(answer),
     }
 }
 

@@ -17,8 +17,8 @@ loop-row-preserved g c =
     let l = c.loop-row in
     let h = c.args.history.now.records in
     let rec = c.in-Some.rec.now in
-    version_next c.args.proxy h l.row rec l.version c.version_after-version.result (had_at c.records-records.result.now h l.row rec c.records-records.ensures.value c.in-Some.ensures)
-    c.version_after-version.ensures.own c.version_after-version.ensures.other l.invariant
+    version_next c.args.proxy h l.row rec l.version c.version_if_own-version.result (had_at c.records-records.result.now h l.row rec c.records-records.ensures.value c.in-Some.ensures)
+    c.version_if_own-version.ensures.own c.version_if_own-version.ensures.other l.invariant
 
 pub returns : goal.returns
 returns g c =

@@ -22,9 +22,13 @@ loop-one-preserved g c =
     record {
       count = omega (arith, size, l.invariant.count, c.in-Some.ensures.steps.1);
       left = append_assoc l.yielded (one ∷ []) (into_iter_items c.next.new.self) ∙ ap (λ rest. l.yielded ++ rest) (sym next) ∙ l.invariant.left;
-      joined = joined_more l.yielded (λ answered. string_bytes answered.text) one l.outcome appended.result c.join_results-outcome.result (string_bytes l.text) (string_bytes appended.new.text) c.join_results-outcome.ensures l.invariant.joined appended.ensures.text;
-      turns = subst (λ (n : ℕ). IfOk c.join_results-outcome.result (λ _. IsInTurns (IsTextOf (λ answered. string_bytes answered.text) (λ answered. answered.history) c.args.results.items) nothing_known n appended.new.history (string_bytes appended.new.text))) (sym more)
-          (joined_next (λ answered. string_bytes answered.text) (λ answered. answered.history) c.args.results.items (length l.yielded) one l.history appended.new.history (string_bytes l.text) (string_bytes appended.new.text) l.outcome appended.result c.join_results-outcome.result
+      joined = joined_more l.yielded (λ answered. string_bytes answered.text) one l.outcome appended.result c.join_results-outcome.result
+          (string_bytes l.text) (string_bytes appended.new.text) c.join_results-outcome.ensures l.invariant.joined appended.ensures.text;
+      turns = subst (λ (n : ℕ). IfOk c.join_results-outcome.result
+          (λ _. IsInTurns (IsTextOf (λ answered. string_bytes answered.text) (λ answered. answered.history) c.args.results.items) nothing_known n
+          appended.new.history (string_bytes appended.new.text))) (sym more)
+          (joined_next (λ answered. string_bytes answered.text) (λ answered. answered.history) c.args.results.items (length l.yielded) one l.history
+          appended.new.history (string_bytes l.text) (string_bytes appended.new.text) l.outcome appended.result c.join_results-outcome.result
           c.join_results-outcome.ensures at l.invariant.turns appended.ensures.text appended.ensures.joined);
     }
 

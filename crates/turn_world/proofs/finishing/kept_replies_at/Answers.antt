@@ -7,10 +7,9 @@ use Rattle.model.specs.ResolverMemory.{ResolverView}
 use Rattle.state_memory.specs.Kept.{kept_reply}
 use Rattle.proxy_state.proofs.RefusedCalls.{no_next_fault}
 use Rattle.turn_world.specs.Parts.{kept_replies_at}
-use Rattle.turn_world.proofs.NewParts.{kept_next, none_next}
+use Rattle.turn_world.proofs.NewParts.{kept_next}
 use Rattle.turn_world.proofs.OfferedParts.{got}
 use Rattle.turn_world.proofs.finishing.kept_replies_at.Goals as goal
-use Rattle.turn_world.proofs.finishing.kept_replies_at.Goals.{in-Some+in_ok-copy+in-Ok, in_default}
 
 same_reply : (a b : Reply) → Some a ≡ Some b → a ≡ b
 same_reply a b both = cc
@@ -19,19 +18,21 @@ pub loop-resolver-preserved : goal.loop-resolver-preserved
 loop-resolver-preserved c =
     let i = c.loop-resolver.resolver-index in
     let at = got c.args.resolvers.now i c.resolver-item.result (omega arith) c.resolver-item.is in
-    elim c.match-kept_reply.branch [
-      | in-Some+in_ok-copy+in-Ok w ↦
-          let k = c.requires.kept i c.resolver-item.result at in
-          let own = w.in_ok-copy.ensures ∙ same_reply w.in-Some.reply.now k.0 (sym w.in-Some.ensures ∙ k.1) in
-          let named : w.in_ok-copy.field-0.resolver ≡ i = ap (λ (reply : Reply). reply.resolver) own ∙ k.2 in
-          kept_next c.args.resolvers.now c.args.proxy c.args.version i c.resolver-item.result w.in_ok-copy.field-0 c.loop-resolver.replies c.match-kept_reply.replies (omega arith) at (w.in-Some.ensures ∙ ap Some (sym w.in_ok-copy.ensures)) c.loop-resolver.invariant
-          (w.replies-is ∙ w.in-Ok.ensures.filled ∙ ap (λ (r : ℕ). slice_set c.loop-resolver.replies r (Some w.in_ok-copy.field-0)) named)
-      | in_default w ↦
-          w.replies-is ∙ none_next c.args.resolvers.now c.args.proxy c.args.version i c.resolver-item.result c.loop-resolver.replies (omega arith) at w.in_default.ensures c.loop-resolver.invariant
-    ]
+    let k = c.requires.kept i c.resolver-item.result at in
+    let own = c.in_ok-copy.ensures ∙ same_reply c.in-Some.reply.now k.0 (sym c.in-Some.ensures ∙ k.1) in
+    let named : c.in_ok-copy.field-0.resolver ≡ i = ap (λ (reply : Reply). reply.resolver) own ∙ k.2 in
+    kept_next c.args.resolvers.now c.args.proxy c.args.version i c.resolver-item.result c.in_ok-copy.field-0 c.loop-resolver.replies c.put.new.self (omega arith) at (c.in-Some.ensures ∙ ap Some (sym c.in_ok-copy.ensures)) c.loop-resolver.invariant
+    (c.in-Ok.ensures.filled ∙ ap (λ (r : ℕ). slice_set c.loop-resolver.replies r (Some c.in_ok-copy.field-0)) named)
 
 pub unreachable-requires : goal.unreachable-requires
 unreachable-requires c =
+    let i = c.loop-resolver.resolver-index in
+    let at = got c.args.resolvers.now i c.resolver-item.result (omega arith) c.resolver-item.is in
+    let k = c.requires.kept i c.resolver-item.result at in
+    none-some k.0 (sym c.in_default.ensures ∙ k.1)
+
+pub unreachable-requires-in_default-put : goal.unreachable-requires-in_default-put
+unreachable-requires-in_default-put c =
     let i = c.loop-resolver.resolver-index in
     let at = got c.args.resolvers.now i c.resolver-item.result (omega arith) c.resolver-item.is in
     let k = c.requires.kept i c.resolver-item.result at in

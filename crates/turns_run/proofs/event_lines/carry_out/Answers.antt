@@ -20,15 +20,15 @@ returns-in-Ok-clause-text g c =
     let answer = answered c.args.world.now event c.in-Ok.answer c.in-Ok.ensures.answer in
     prints_as c.print_answer.ensures (ap (λ finishing. answer_text finishing (event_answer_of c.in-Ok.answer)) c.finishing_proxy-finishing.ensures ∙ sym (ap (event_text event) answer))
 
-pub returns-in_ok-check_numbered-in-Err-clause-text : goal.returns-in_ok-check_numbered-in-Err-clause-text
-returns-in_ok-check_numbered-in-Err-clause-text g c =
+pub returns-in_ok-check_has_number-in-Err-clause-text : goal.returns-in_ok-check_has_number-in-Err-clause-text
+returns-in_ok-check_has_number-in-Err-clause-text g c =
     prints_as c.print_refusal.ensures
-    (sym (refused c.args.world.now (event_of c.args.event) c.in-Err.refusal c.in_ok-check_numbered-in-Err.ensures c.in-Err.ensures.answer).0)
+    (sym (refused c.args.world.now (event_of c.args.event) c.in-Err.refusal c.in_ok-check_has_number-in-Err.ensures c.in-Err.ensures.answer).0)
 
-pub returns-in_ok-check_numbered-in-Err-clause-world : goal.returns-in_ok-check_numbered-in-Err-clause-world
-returns-in_ok-check_numbered-in-Err-clause-world g c =
-    c.in-Err.ensures.err ∙ (refused c.args.world.now (event_of c.args.event) c.in-Err.refusal c.in_ok-check_numbered-in-Err.ensures c.in-Err.ensures.answer).1
+pub returns-in_ok-check_has_number-in-Err-clause-world : goal.returns-in_ok-check_has_number-in-Err-clause-world
+returns-in_ok-check_has_number-in-Err-clause-world g c =
+    c.in-Err.ensures.err ∙ (refused c.args.world.now (event_of c.args.event) c.in-Err.refusal c.in_ok-check_has_number-in-Err.ensures c.in-Err.ensures.answer).1
 
-pub returns-in_err-check_numbered-in-Err-clause-unprinted : goal.returns-in_err-check_numbered-in-Err-clause-unprinted
-returns-in_err-check_numbered-in-Err-clause-unprinted g c =
+pub returns-in_err-check_has_number-in-Err-clause-unprinted : goal.returns-in_err-check_has_number-in-Err-clause-unprinted
+returns-in_err-check_has_number-in-Err-clause-unprinted g c =
     search (rules, prints_nothing {has_printed = g.P.Page.has_printed} c.args.page.now)

@@ -7,7 +7,9 @@ use Rattle.turns_run.proofs.event_lines.carry_out_events.Goals as goal
 
 pub loop-event-preserved : goal.loop-event-preserved
 loop-event-preserved c =
-    let one = after_one c.args.world.now c.loop-event.world c.carry_out_event.new.world c.in-Some.event _ (into_iter_items c.next.new.self) _ _ _ _ c.in-Some.ensures.steps.0 c.in_ok-carry_out_event.ensures.text c.in_ok-carry_out_event.ensures.world c.loop-event.invariant.0 c.loop-event.invariant.1 c.loop-event.invariant.2 in
+    let one = after_one c.args.world.now c.loop-event.world c.carry_out_event.new.world c.in-Some.event _ (into_iter_items c.next.new.self) _ _ _ _
+    c.in-Some.ensures.steps.0 c.in_ok-carry_out_event.ensures.text c.in_ok-carry_out_event.ensures.world c.loop-event.invariant.0
+    c.loop-event.invariant.1 c.loop-event.invariant.2 in
     let size = ap (λ (events : List Event). length events) c.in-Some.ensures.steps.0 in
     (one.0, one.1, one.2, omega (arith, size, c.loop-event.invariant.3, c.in-Some.ensures.steps.1))
 

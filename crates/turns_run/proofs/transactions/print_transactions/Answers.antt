@@ -11,10 +11,10 @@ loop-outcome-init g c = record { told = leaves_all _ _; in_order = c.requires; c
 pub loop-outcome-preserved : goal.loop-outcome-preserved
 loop-outcome-preserved g c =
     let l = c.loop-outcome in
-    let after = c.print_first_mutations-rest.ensures.later in
+    let after = c.print_mutations_at_front-rest.ensures.later in
     let split = drop_more c.args.outcomes.now l.outcome-index _ c.loop-outcome-test.true in
     record {
-      told = leaves_less l.invariant.told (prints_both c.print_transaction.ensures c.print_first_mutations-rest.ensures.printed) (next_transaction l.number l.rest.now c.print_first_mutations-rest.result.now _ _ _ split after);
+      told = leaves_less l.invariant.told (prints_both c.print_transaction.ensures c.print_mutations_at_front-rest.ensures.printed) (next_transaction l.number l.rest.now c.print_mutations_at_front-rest.result.now _ _ _ split after);
       in_order = rw add-one after.in_order;
       count = ap (λ n. n + 1) l.invariant.count;
     }

@@ -15,7 +15,9 @@ returns-clause-answers g c =
     let first = c.in_ok-first.first in
     let second = c.in_ok-second.second in
     IfOk-weaker c.finish_two.result (λ both. FinishesBoth c.lock-guard.result first second c.finish_two.new.guard both.0 both.1) (λ both. AnswerInOrder c.args.proxy.now c.args.batch c.args.next_batch both.0 both.1)
-    (λ both is. in_order c.args.proxy.now c.lock-guard.result c.finish_two.new.guard c.args.batch c.args.next_batch begun next_begun first second both.0 both.1 c.in_ok-begun.ensures.first c.in_ok-begun.ensures.second c.in_ok-first.ensures.row c.in_ok-first.ensures.records c.in_ok-second.ensures.row c.in_ok-second.ensures.records is)
+    (λ both is. in_order c.args.proxy.now c.lock-guard.result c.finish_two.new.guard c.args.batch c.args.next_batch begun next_begun first second
+    both.0 both.1 c.in_ok-begun.ensures.first c.in_ok-begun.ensures.second c.in_ok-first.ensures.row c.in_ok-first.ensures.records
+    c.in_ok-second.ensures.row c.in_ok-second.ensures.records is)
     c.finish_two.ensures.answers
 
 pub returns-clause-refused : goal.returns-clause-refused
@@ -30,7 +32,8 @@ returns-clause-refused g c =
     let holds = holds_still p begun.row first.row begun.records first.records c.args.batch c.in_ok-first.ensures.row c.in_ok-first.ensures.records c.in_ok-begun.ensures.first in
     let next_holds = holds_still p next_begun.row second.row next_begun.records second.records c.args.next_batch c.in_ok-second.ensures.row c.in_ok-second.ensures.records c.in_ok-begun.ensures.second in
     IfErr-weaker c.finish_two.result (RefusesOneFinish cells.config guard.result first second c.finish_two.new.guard) (OneWasNotCommitted cells p c.args.batch c.args.next_batch)
-    (λ refused refuses. one_finish_refused cells p c.args.batch c.args.next_batch guard.result first second c.finish_two.new.guard refused guard.ensures.kept guard.ensures.number c.row-row.ensures.kept c.row-next_row.ensures.kept holds next_holds refuses)
+    (λ refused refuses. one_finish_refused cells p c.args.batch c.args.next_batch guard.result first second c.finish_two.new.guard refused
+    guard.ensures.kept guard.ensures.number c.row-row.ensures.kept c.row-next_row.ensures.kept holds next_holds refuses)
     c.finish_two.ensures.refused
 
 pub returns-in_err-first-clause-refused : goal.returns-in_err-first-clause-refused

@@ -19,7 +19,7 @@ returns-clause-promise g c =
       next_answer = c.in_ok-next_answer.next_answer;
       committed = subst (λ (p : ℕ). IsCommitted p c.args.batch c.in_ok-answer.answer c.in_ok-answer.mine) c.requires.one c.in_ok-answer.ensures.committed;
       next_committed = subst (λ (p : ℕ). IsCommitted p c.args.next_batch c.in_ok-next_answer.next_answer c.in_ok-next_answer.theirs) c.requires.other c.in_ok-next_answer.ensures.committed;
-      shows = c.in_ok-shown_by.ensures;
+      shows = c.in_ok-show_both.ensures;
     }
 
 pub returns-in_err-answer-clause-refused : goal.returns-in_err-answer-clause-refused
@@ -38,8 +38,8 @@ returns-in_err-next_answer-clause-refused g c =
     if_err (WasNotShownBy cells c.args.batch c.args.next_batch) c.from_residual-in_err-next_answer.result refused is
     (by_two cells c.args.batch c.args.next_batch refused c.requires.there (inr (inr (subst (λ (p : ℕ). WasNotCommitted cells p c.args.next_batch refused) c.requires.other c.in_err-next_answer.ensures.refused))))
 
-pub returns-in_err-shown_by-clause-refused : goal.returns-in_err-shown_by-clause-refused
-returns-in_err-shown_by-clause-refused g c =
+pub returns-in_err-show_both-clause-refused : goal.returns-in_err-show_both-clause-refused
+returns-in_err-show_both-clause-refused g c =
     let cells = g.N.Naming.cells in
-    let is : c.from_residual-in_err-shown_by.result ≡ Err (ByLedger ledgers.OutOfMemory) = search rules in
-    if_err (WasNotShownBy cells c.args.batch c.args.next_batch) c.from_residual-in_err-shown_by.result (ByLedger ledgers.OutOfMemory) is (no_memory cells c.args.batch c.args.next_batch (ByLedger ledgers.OutOfMemory) (inl refl))
+    let is : c.from_residual-in_err-show_both.result ≡ Err (ByLedger ledgers.OutOfMemory) = search rules in
+    if_err (WasNotShownBy cells c.args.batch c.args.next_batch) c.from_residual-in_err-show_both.result (ByLedger ledgers.OutOfMemory) is (no_memory cells c.args.batch c.args.next_batch (ByLedger ledgers.OutOfMemory) (inl refl))

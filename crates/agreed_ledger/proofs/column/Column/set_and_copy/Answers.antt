@@ -19,5 +19,5 @@ set_next_and_copy-requires g c =
 pub returns-in-Err-clause-taken : goal.returns-in-Err-clause-taken
 returns-in-Err-clause-taken g c =
     let row : c.end-row.result ≡ end_of (values_of c.self.inside.stretch) = c.end-row.ensures.value ∙ sym (values_end c.self.inside.stretch) in
-    subst (λ (v : ColumnView). IfTaken c.from_unset-why.result (AreKnownAt (end_of v.rows) v.resolver)) c.self.view_is
-    (subst (λ (n : ℕ). IfTaken c.from_unset-why.result (AreKnownAt n c.self.inside.resolver)) row c.from_unset-why.ensures.taken)
+    subst (λ (v : ColumnView). IfTaken c.from_not_set-why.result (AreKnownAt (end_of v.rows) v.resolver)) c.self.view_is
+    (subst (λ (n : ℕ). IfTaken c.from_not_set-why.result (AreKnownAt n c.self.inside.resolver)) row c.from_not_set-why.ensures.taken)

@@ -17,4 +17,4 @@ set_next_and_copy-requires g c =
 pub returns-in-Err-clause-taken : goal.returns-in-Err-clause-taken
 returns-in-Err-clause-taken g c =
     let row : c.end-row.result ≡ end_of c.args.self.now = c.end-row.ensures.value ∙ sym (values_end c.self.inside.stretch) ∙ ap (λ (s : Stretch Record). end_of s) c.self.view_is in
-    subst (λ (n : ℕ). IfTaken c.from_unset.result (IsKnownAt n)) row c.from_unset.ensures.taken
+    subst (λ (n : ℕ). IfTaken c.from_not_set.result (IsKnownAt n)) row c.from_not_set.ensures.taken

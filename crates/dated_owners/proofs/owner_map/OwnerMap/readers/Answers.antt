@@ -8,6 +8,6 @@ pub returns : goal.returns
 returns c =
     let bound : c.max.result ≡ max c.args.snapshot c.args.self.now.oldest = c.max.ensures ∙ ap (λ (map : OwnerMapView). max c.args.snapshot map.oldest) c.self.view_is in
     λ moves asks.
-    c.asked_on_walk.ensures
+    c.resolvers_on_walk.ensures
     ∙ ap (λ b. readers c.args.self.now.resolvers c.args.self.now.moves b c.args.range.now) bound
     ∙ asked_readers c.args.self.now moves c.args.snapshot c.args.range.now asks

@@ -4,4 +4,4 @@ use Rattle.model.proofs.Owners.Asking.{asked_writers}
 use Rattle.dated_owners.proofs.owner_map.OwnerMap.writers.Goals as goal
 
 pub returns : goal.returns
-returns c = λ moves asks. c.asked_on_walk.ensures ∙ asked_writers c.args.self.now moves c.args.range.now asks
+returns c = λ moves asks. c.resolvers_on_walk.ensures ∙ asked_writers c.args.self.now moves c.args.range.now asks

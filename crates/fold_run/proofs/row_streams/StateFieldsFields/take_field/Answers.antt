@@ -8,9 +8,9 @@ use Rattle.fold_run.proofs.row_streams.StateFieldsFields.take_field.Goals as goa
 pub returns-in-mutations : goal.returns-in-mutations
 returns-in-mutations c =
     let f = c.args.self.now in
-    let new = c.take_into.new.slot in
+    let new = c.take_into_slot.new.slot in
     let k = codes "mutations" in
-    rw c.in-mutations.is (if_some_weaker c.take_into.result (λ _ read. (
+    rw c.in-mutations.is (if_some_weaker c.take_into_slot.result (λ _ read. (
       read.0,
       read.1,
       λ ms held.
@@ -20,14 +20,14 @@ returns-in-mutations c =
             slot_other (list_shape verdict_shape) (codes "verdicts") k f.verdicts read.0 ms refl held.2,
             omega (arith, more.0, more.1, more.2, held.3),
           ),
-    )) c.take_into.ensures)
+    )) c.take_into_slot.ensures)
 
 pub returns-in-lock_aware : goal.returns-in-lock_aware
 returns-in-lock_aware c =
     let f = c.args.self.now in
-    let new = c.take_into-in-lock_aware.new.slot in
+    let new = c.take_into_slot-in-lock_aware.new.slot in
     let k = codes "lock_aware" in
-    rw c.in-lock_aware.is (if_some_weaker c.take_into-in-lock_aware.result (λ _ read. (
+    rw c.in-lock_aware.is (if_some_weaker c.take_into_slot-in-lock_aware.result (λ _ read. (
       read.0,
       read.1,
       λ ms held.
@@ -37,14 +37,14 @@ returns-in-lock_aware c =
             slot_other (list_shape verdict_shape) (codes "verdicts") k f.verdicts read.0 ms refl held.2,
             omega (arith, more.0, more.1, more.2, held.3),
           ),
-    )) c.take_into-in-lock_aware.ensures)
+    )) c.take_into_slot-in-lock_aware.ensures)
 
 pub returns-in-verdicts : goal.returns-in-verdicts
 returns-in-verdicts c =
     let f = c.args.self.now in
-    let new = c.take_into-in-verdicts.new.slot in
+    let new = c.take_into_slot-in-verdicts.new.slot in
     let k = codes "verdicts" in
-    rw c.in-verdicts.is (if_some_weaker c.take_into-in-verdicts.result (λ _ read. (
+    rw c.in-verdicts.is (if_some_weaker c.take_into_slot-in-verdicts.result (λ _ read. (
       read.0,
       read.1,
       λ ms held.
@@ -54,4 +54,4 @@ returns-in-verdicts c =
             slot_put (list_shape verdict_shape) k read.0 f.verdicts new ms read.2,
             omega (arith, more.0, more.1, more.2, held.3),
           ),
-    )) c.take_into-in-verdicts.ensures)
+    )) c.take_into_slot-in-verdicts.ensures)

@@ -20,12 +20,12 @@ invariant_of-self-2 g c =
     let x = c.in_ok-message.message in
     let hand = c.take_one.new.hand in
     let before = c.self.inside.counts.items in
-    let after = c.count_one.new.counts.items in
+    let after = c.count_message.new.counts.items in
     let here : place_of ring ≡ place =
     c.requires.place ∙ ap (λ (t : WorkerPassView). place_at places t.resolver) (sym c.self.view_is) in
     let taken = c.in_ok-message.ensures.taken in
     let Counted : ℕ → Type 0 = λ p. (p < length before → after ≡ set before p (min (get_or before p 0 + 1) (2 ^ 64 - 1))) × (length before ≤ p → after ≡ before) in
-    let one = subst Counted c.proxy.ensures (c.count_one.ensures.counted, c.count_one.ensures.other) in (
+    let one = subst Counted c.proxy.ensures (c.count_message.ensures.counted, c.count_message.ensures.other) in (
       hand_of place ring hand here c.in_ok-message.ensures.place,
       ap (λ (v : View). v.gets) taken,
       subst (λ (l : List MessageView). AreCounts proxies l after) (sym (ap (λ (v : View). v.got) taken)) (counts_more proxies got x before after c.self.invariant.2 one.0 one.1),

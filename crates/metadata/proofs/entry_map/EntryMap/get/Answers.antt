@@ -6,10 +6,10 @@ use Rattle.metadata.proofs.entry_map.EntryMap.get.Goals as goal
 
 pub returns : goal.returns
 returns c =
-    ap Some c.as_slice.ensures ∙ c.in_ok-value.ensures.value ∙ looked_up c.args.key.now c.self.inside.values.entries
+    ap Some c.value.ensures ∙ c.in_ok-row.ensures.value ∙ looked_up c.args.key.now c.self.inside.values.entries
     ∙ ap (λ (entries : Entries). entry_value entries c.args.key.now) c.self.view_is
 
-pub returns-in_err-value : goal.returns-in_err-value
-returns-in_err-value c =
-    rw c.from_residual.ensures (c.in_err-value.ensures.value ∙ looked_up c.args.key.now c.self.inside.values.entries
+pub returns-in_err-row : goal.returns-in_err-row
+returns-in_err-row c =
+    rw c.from_residual.ensures (c.in_err-row.ensures.value ∙ looked_up c.args.key.now c.self.inside.values.entries
     ∙ ap (λ (entries : Entries). entry_value entries c.args.key.now) c.self.view_is)

@@ -18,15 +18,15 @@ loop-key-init c = (
   ap (λ (es : List (Vec ℕ × List ℕ)). list_all (λ (entry : Entry). is_listed c.args.hidden.now entry.0) (entries_of es)) (c.into_iter-key-iterator.ensures.into_iter_gives ∙ c.range-key-items.ensures.between tt)
       ∙ ap (list_all (λ (entry : Entry). is_listed c.args.hidden.now entry.0))
       (between_both c.self.inside.values.entries c.args.first.now c.args.last.now ∙ ap (λ (entries : Entries). filter (λ (entry : Entry). is_from_up_to c.args.first.now.items c.args.last.now.items entry.0) entries) c.self.view_is),
-  c.from_key-listed.ensures,
+  c.keys_at_or_after-listed.ensures,
 )
 
 pub loop-key-preserved : goal.loop-key-preserved
 loop-key-preserved c =
-    let found : is_listed (bytes_of_keys c.loop-key.listed) c.as_slice-in-loop-key.result.now ≡ true = c.is_next.ensures.found (search rules) in
+    let found : is_listed (bytes_of_keys c.loop-key.listed) c.as_slice-in-loop-key.result.now ≡ true = c.next_key_is.ensures.found (search rules) in
     let hides : is_listed c.args.hidden.now c.in-Some.key.now.items ≡ true = ap (is_listed c.args.hidden.now) (sym c.as_slice-in-loop-key.ensures.value) ∙ c.loop-key.invariant.1 c.as_slice-in-loop-key.result.now found in (
       listed_next c.args.hidden.now (c.in-Some.key.now, c.in-Some.field-0-1.now) c.next.new.self c.loop-key.key-iterator _ c.in-Some.ensures.steps hides c.loop-key.invariant.0,
-      (λ other listed. c.loop-key.invariant.1 other (c.is_next.ensures.rest other listed)),
+      (λ other listed. c.loop-key.invariant.1 other (c.next_key_is.ensures.rest other listed)),
     )
 
 pub returns : goal.returns

@@ -12,9 +12,9 @@ invariant_of-self c = entries_in_order _ c.insert.ensures.ordered
 
 pub returns-clause-value : goal.returns-clause-value
 returns-clause-value c = λ there.
-    filled c.insert.result c.self.inside.values.entries c.insert.new.self.entries c.args.key c.args.value c.insert.ensures.entries c.insert.ensures.absent
+    filled c.insert.result c.self.inside.values.entries c.insert.new.self.entries c.args.key c.args.row c.insert.ensures.entries c.insert.ensures.absent
     (ap (λ (entries : Entries). has_entry entries c.args.key.items) c.self.view_is ∙ there)
-    ∙ ap (λ (entries : Entries). insert_entry key_cmp entries c.args.key.items c.args.value) c.self.view_is
+    ∙ ap (λ (entries : Entries). insert_entry key_cmp entries c.args.key.items c.args.row) c.self.view_is
 
 pub returns-clause-order : goal.returns-clause-order
 returns-clause-order c = entries_in_order _ c.insert.ensures.ordered

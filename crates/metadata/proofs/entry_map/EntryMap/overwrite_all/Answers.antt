@@ -9,7 +9,7 @@ use Rattle.metadata.proofs.entry_map.EntryMap.overwrite_all.Goals as goal
 pub loop-key-preserved : goal.loop-key-preserved
 loop-key-preserved c = (
   (λ there.
-      next_written c.args.self.now c.args.puts c.loop-key.self c.overwrite.new.self (entry_from (c.in-Some.key, c.in-Some.value)) (entries_of c.next.new.self) c.overwrite.ensures.value
+      next_written c.args.self.now c.args.puts c.loop-key.self c.overwrite.new.self (entry_from (c.in-Some.key, c.in-Some.row)) (entries_of c.next.new.self) c.overwrite.ensures.value
       (subst (λ (es : List (Vec ℕ × List ℕ)). IsWriting c.args.self.now c.args.puts c.loop-key.self (entries_of es)) c.in-Some.ensures.steps (c.loop-key.invariant.0 there))),
   (λ order. c.overwrite.ensures.order),
 )

@@ -10,12 +10,12 @@ returns-in-Ok-clause-undo c =
 
 pub returns-in-Err-clause-err : goal.returns-in-Err-clause-err
 returns-in-Err-clause-err c =
-    c.take_back.ensures.old c.args.self.now c.undo_of.ensures.order
+    c.take_back.ensures c.args.self.now c.undo_of_puts.ensures.order
     (takes_back_some c.in_ok-undo.undo.0 c.args.puts c.in_ok-undo.undo.1 c.args.self.now c.put_each.new.self c.in_ok-undo.ensures.missing c.in_ok-undo.ensures.displaced c.put_each.ensures.others c.put_each.ensures.there)
 
 pub returns-in-Err-clause-order : goal.returns-in-Err-clause-order
 returns-in-Err-clause-order c =
     let same : c.take_back.new.self ≡ c.args.self.now =
-    c.take_back.ensures.old c.args.self.now c.undo_of.ensures.order
+    c.take_back.ensures c.args.self.now c.undo_of_puts.ensures.order
     (takes_back_some c.in_ok-undo.undo.0 c.args.puts c.in_ok-undo.undo.1 c.args.self.now c.put_each.new.self c.in_ok-undo.ensures.missing c.in_ok-undo.ensures.displaced c.put_each.ensures.others c.put_each.ensures.there) in
-    subst IsInOrder (sym same) c.undo_of.ensures.order
+    subst IsInOrder (sym same) c.undo_of_puts.ensures.order

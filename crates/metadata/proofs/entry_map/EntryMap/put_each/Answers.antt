@@ -13,11 +13,11 @@ loop-key-init c = (putting_over_first c.args.self.now c.args.puts (entries_of c.
 
 pub loop-key-preserved : goal.loop-key-preserved
 loop-key-preserved c =
-    let last : Vec ℕ × List ℕ = (c.in-Some.key, c.in-Some.value) in (
-      putting_over_next c.args.self.now c.args.puts c.loop-key.self c.put_owned.new.self (entry_from last) (entries_of c.next_back.new.self) c.in_ok-put_owned.ensures.ok
+    let last : Vec ℕ × List ℕ = (c.in-Some.key, c.in-Some.row) in (
+      putting_over_next c.args.self.now c.args.puts c.loop-key.self c.put_row.new.self (entry_from last) (entries_of c.next_back.new.self) c.in_ok-put_row.ensures.ok
           (subst (IsPuttingOver c.args.self.now c.args.puts c.loop-key.self) (both_of c.next_back.new.self (last ∷ []))
           (subst (λ (es : List (Vec ℕ × List ℕ)). IsPuttingOver c.args.self.now c.args.puts c.loop-key.self (entries_of es)) c.in-Some.ensures.steps c.loop-key.invariant.0)),
-      (λ order. c.in_ok-put_owned.ensures.order),
+      (λ order. c.in_ok-put_row.ensures.order),
     )
 
 pub returns-clause-ok : goal.returns-clause-ok
@@ -29,8 +29,8 @@ returns-clause-others c = putting_over_others c.args.self.now c.args.puts c.loop
 pub returns-clause-there : goal.returns-clause-there
 returns-clause-there c = c.loop-key.invariant.0.there
 
-pub returns-in_err-put_owned-clause-others : goal.returns-in_err-put_owned-clause-others
-returns-in_err-put_owned-clause-others c = λ key out. ap (λ (entries : Entries). entry_value entries key) c.in_err-put_owned.ensures.err ∙ putting_over_others c.args.self.now c.args.puts c.loop-key.self (entries_of c.loop-key.rest) c.loop-key.invariant.0 key out
+pub returns-in_err-put_row-clause-others : goal.returns-in_err-put_row-clause-others
+returns-in_err-put_row-clause-others c = λ key out. ap (λ (entries : Entries). entry_value entries key) c.in_err-put_row.ensures.err ∙ putting_over_others c.args.self.now c.args.puts c.loop-key.self (entries_of c.loop-key.rest) c.loop-key.invariant.0 key out
 
-pub returns-in_err-put_owned-clause-there : goal.returns-in_err-put_owned-clause-there
-returns-in_err-put_owned-clause-there c = λ key has. ap (λ (entries : Entries). has_entry entries key) c.in_err-put_owned.ensures.err ∙ c.loop-key.invariant.0.there key has
+pub returns-in_err-put_row-clause-there : goal.returns-in_err-put_row-clause-there
+returns-in_err-put_row-clause-there c = λ key has. ap (λ (entries : Entries). has_entry entries key) c.in_err-put_row.ensures.err ∙ c.loop-key.invariant.0.there key has

@@ -13,8 +13,9 @@ invariant_of-self-2 c = entries_in_order _ c.insert.ensures.ordered
 pub returns-clause-ok : goal.returns-clause-ok
 returns-clause-ok c =
     ap entries_of c.in_ok-insert.ensures.entries
-    ∙ inserted c.self.inside.values.entries c.args.key c.args.value
-    ∙ ap (λ (entries : Entries). insert_entry key_cmp entries c.args.key.items c.args.value) c.self.view_is
+    ∙ inserted c.self.inside.values.entries c.args.key c.unread.result
+    ∙ ap (λ (entries : Entries). insert_entry key_cmp entries c.args.key.items c.unread.result) c.self.view_is
+    ∙ ap (insert_entry key_cmp c.args.self.now c.args.key.items) c.unread.ensures
 
 pub returns-clause-order : goal.returns-clause-order
 returns-clause-order c = entries_in_order _ c.insert.ensures.ordered

@@ -8,8 +8,8 @@ use Rattle.metadata.specs.Overwrites.{TakesBack}
 use Rattle.metadata.proofs.PutEntries.{taken_back}
 use Rattle.metadata.proofs.entry_map.EntryMap.take_back.Goals as goal
 
-pub returns-clause-old : goal.returns-clause-old
-returns-clause-old c = λ old s takes.
+pub returns : goal.returns
+returns c = λ old s takes.
     taken_back (bytes_of_keys c.deref.result.now) c.undo.inside.displaced c.new.result old c.args.self.now c.remove_listed-3.new.self c.overwrite_all.new.self s
     (c.overwrite_all.ensures.order (c.remove_listed-3.ensures.order (subst IsInOrder c.remove_listed.view_is c.remove_listed.invariant)))
     c.new.ensures

@@ -4,8 +4,7 @@ use Rattle.std.specs.Global.{Vec}
 use Rattle.system_keys.specs.Keys.{Key}
 use Rattle.metadata.specs.MapEntries.{bytes_of_keys}
 use Rattle.metadata.specs.Overwrites.{is_same_key, is_listed}
-use Rattle.metadata.proofs.KeySets.{AreAdded, added_last}
-use Rattle.metadata.proofs.TagEntries.{none_left}
+use Rattle.metadata.proofs.KeySets.{AreAdded, added_last, none_left}
 use Rattle.metadata.proofs.key_set.KeySet.insert_all.Goals as goal
 
 pub loop-key-preserved : goal.loop-key-preserved

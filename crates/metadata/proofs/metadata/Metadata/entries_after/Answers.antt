@@ -1,19 +1,13 @@
 -- None of what is still to be removed gives a tag.
-use Rattle.std.proofs.Common.{◌∙◌, refl, sym, ap, subst}
-use Rattle.model.specs.Metadata.{Entries, entry_value}
+use Rattle.std.proofs.Common.{◌∙◌, sym, ap, subst}
+use Rattle.model.specs.Metadata.{Entries}
 use Rattle.metadata.specs.Overwrites.{entries_without}
-use Rattle.metadata.specs.CachedTags.{AreNames, names_at, may_tag_some}
+use Rattle.metadata.specs.CachedTags.{may_tag_some}
 use Rattle.metadata.specs.HiddenRuns.{AreHiddenRuns}
 use Rattle.metadata.specs.ServerTables.{GiveTags}
 use Rattle.metadata.specs.Started.{Started}
-use Rattle.metadata.proofs.CachedTags.{removed_are_names}
 use Rattle.metadata.proofs.MetadataServers.{removed_give_tags}
 use Rattle.metadata.proofs.metadata.Metadata.entries_after.Goals as goal
-
-pub new-requires-clause-tags : goal.new-requires-clause-tags
-new-requires-clause-tags c =
-    subst (λ (entries : Entries). AreNames (names_at c.self.inside.tags) (entry_value (entries_without c.started.inside.removed entries))) (sym c.map-entries.ensures.entries)
-    (removed_are_names c.started.inside.removed c.self.inside.entries (names_at c.self.inside.tags) (names_at c.self.inside.tags) c.self.invariant.0 (λ key out. refl))
 
 pub new-requires-clause-runs : goal.new-requires-clause-runs
 new-requires-clause-runs c =
@@ -23,4 +17,4 @@ new-requires-clause-runs c =
 pub new-requires-clause-servers : goal.new-requires-clause-servers
 new-requires-clause-servers c =
     subst (λ (entries : Entries). GiveTags c.self.inside.servers.tags (entries_without c.started.inside.removed entries)) (sym c.map-entries.ensures.entries)
-    (removed_give_tags c.started.inside.removed c.self.inside.entries c.self.inside.servers.tags (ap (λ (entries : Entries). may_tag_some entries c.started.inside.removed) (sym c.map.ensures.entries) ∙ sym c.may_tag_some.ensures ∙ c.if-may_tag_some.false) c.self.invariant.2)
+    (removed_give_tags c.started.inside.removed c.self.inside.entries c.self.inside.servers.tags (ap (λ (entries : Entries). may_tag_some entries c.started.inside.removed) (sym c.map.ensures.entries) ∙ sym c.may_tag_some.ensures ∙ c.if-may_tag_some.false) c.self.invariant.1)

@@ -2,7 +2,7 @@
 use Rattle.std.proofs.Common.{◌≡◌, ◌∙◌, sym, ap, map, ◌<◌, ℕ, List, [], ◌∷◌, length, get_or, arith}
 use Rattle.model.specs.Configs.{Config}
 use Rattle.model.specs.Finishing.{ProxyView}
-use Rattle.proxy_state.specs.declared.begun.BegunRecord.{BegunRecord}
+use Rattle.proxy_state.specs.declared.begun_record.BegunRecord.{BegunRecord}
 use Rattle.proxy_state.specs.Begun.{record_of, AreBegun}
 use Rattle.proxy_state.specs.Beginning.{IsFirst}
 use Rattle.proxy_state.proofs.proxy.Proxy.next_to_finish.Goals as goal

@@ -9,7 +9,7 @@ use Rattle.request_builder.proofs.moves.Moves.push.Goals as goal
 pub invariant_of-self-2 : goal.invariant_of-self-2
 invariant_of-self-2 c =
     let chunks = c.self.inside.chunks.items in
-    let kept = c.kept_and_room-kept.result.0 in
+    let kept = c.kept_chunks_and_room-kept.result.0 in
     let chunk = c.in_ok-chunk.chunk in
     let is : arc_value chunk ≡ moves_in (drop kept chunks) ++ c.args.one ∷ [] = c.in_ok-chunk.ensures.ok ∙ c.from.ensures ∙ c.in_ok-moves.ensures ∙ ap (λ cs. moves_in cs ++ c.args.one ∷ []) (last_ones c.deref-2.result.now kept ∙ ap (λ cs. drop kept cs) c.deref-2.ensures.value) in
     let grown : c.push_reserved.new.self.items ≡ take kept chunks ++ chunk ∷ [] = c.push_reserved.ensures.items ∙ ap (λ cs. cs ++ chunk ∷ []) (c.truncate.ensures.items ∙ ap (λ cs. take kept cs) c.reserve.ensures.items) in
@@ -20,7 +20,7 @@ invariant_of-self-2 c =
 pub returns-clause-ok : goal.returns-clause-ok
 returns-clause-ok c =
     let chunks = c.self.inside.chunks.items in
-    let kept = c.kept_and_room-kept.result.0 in
+    let kept = c.kept_chunks_and_room-kept.result.0 in
     let chunk = c.in_ok-chunk.chunk in
     let is : arc_value chunk ≡ moves_in (drop kept chunks) ++ c.args.one ∷ [] = c.in_ok-chunk.ensures.ok ∙ c.from.ensures ∙ c.in_ok-moves.ensures ∙ ap (λ cs. moves_in cs ++ c.args.one ∷ []) (last_ones c.deref-2.result.now kept ∙ ap (λ cs. drop kept cs) c.deref-2.ensures.value) in
     let grown : c.push_reserved.new.self.items ≡ take kept chunks ++ chunk ∷ [] = c.push_reserved.ensures.items ∙ ap (λ cs. cs ++ chunk ∷ []) (c.truncate.ensures.items ∙ ap (λ cs. take kept cs) c.reserve.ensures.items) in

@@ -9,9 +9,9 @@ use Rattle.scripts.proofs.batch_streams.TransactionFieldsFields.take_field.Goals
 pub returns-in-snapshot : goal.returns-in-snapshot
 returns-in-snapshot c =
     let f = c.args.self.now in
-    let new = c.take_into.new.slot in
+    let new = c.take_into_slot.new.slot in
     let k = codes "snapshot" in
-    rw c.in-snapshot.is (if_some_weaker c.take_into.result (λ _ read. (
+    rw c.in-snapshot.is (if_some_weaker c.take_into_slot.result (λ _ read. (
       read.0,
       read.1,
       λ ms held.
@@ -23,14 +23,14 @@ returns-in-snapshot c =
             slot_other as_bool (codes "lock_aware") k f.lock_aware read.0 ms refl held.4,
             omega (arith, more.0, more.1, more.2, held.5),
           ),
-    )) c.take_into.ensures)
+    )) c.take_into_slot.ensures)
 
 pub returns-in-reads : goal.returns-in-reads
 returns-in-reads c =
     let f = c.args.self.now in
-    let new = c.take_into-in-reads.new.slot in
+    let new = c.take_into_slot-in-reads.new.slot in
     let k = codes "reads" in
-    rw c.in-reads.is (if_some_weaker c.take_into-in-reads.result (λ _ read. (
+    rw c.in-reads.is (if_some_weaker c.take_into_slot-in-reads.result (λ _ read. (
       read.0,
       read.1,
       λ ms held.
@@ -42,14 +42,14 @@ returns-in-reads c =
             slot_other as_bool (codes "lock_aware") k f.lock_aware read.0 ms refl held.4,
             omega (arith, more.0, more.1, more.2, held.5),
           ),
-    )) c.take_into-in-reads.ensures)
+    )) c.take_into_slot-in-reads.ensures)
 
 pub returns-in-writes : goal.returns-in-writes
 returns-in-writes c =
     let f = c.args.self.now in
-    let new = c.take_into-in-writes.new.slot in
+    let new = c.take_into_slot-in-writes.new.slot in
     let k = codes "writes" in
-    rw c.in-writes.is (if_some_weaker c.take_into-in-writes.result (λ _ read. (
+    rw c.in-writes.is (if_some_weaker c.take_into_slot-in-writes.result (λ _ read. (
       read.0,
       read.1,
       λ ms held.
@@ -61,14 +61,14 @@ returns-in-writes c =
             slot_other as_bool (codes "lock_aware") k f.lock_aware read.0 ms refl held.4,
             omega (arith, more.0, more.1, more.2, held.5),
           ),
-    )) c.take_into-in-writes.ensures)
+    )) c.take_into_slot-in-writes.ensures)
 
 pub returns-in-mutations : goal.returns-in-mutations
 returns-in-mutations c =
     let f = c.args.self.now in
-    let new = c.take_into-in-mutations.new.slot in
+    let new = c.take_into_slot-in-mutations.new.slot in
     let k = codes "mutations" in
-    rw c.in-mutations.is (if_some_weaker c.take_into-in-mutations.result (λ _ read. (
+    rw c.in-mutations.is (if_some_weaker c.take_into_slot-in-mutations.result (λ _ read. (
       read.0,
       read.1,
       λ ms held.
@@ -80,14 +80,14 @@ returns-in-mutations c =
             slot_other as_bool (codes "lock_aware") k f.lock_aware read.0 ms refl held.4,
             omega (arith, more.0, more.1, more.2, held.5),
           ),
-    )) c.take_into-in-mutations.ensures)
+    )) c.take_into_slot-in-mutations.ensures)
 
 pub returns-in-lock_aware : goal.returns-in-lock_aware
 returns-in-lock_aware c =
     let f = c.args.self.now in
-    let new = c.take_into-in-lock_aware.new.slot in
+    let new = c.take_into_slot-in-lock_aware.new.slot in
     let k = codes "lock_aware" in
-    rw c.in-lock_aware.is (if_some_weaker c.take_into-in-lock_aware.result (λ _ read. (
+    rw c.in-lock_aware.is (if_some_weaker c.take_into_slot-in-lock_aware.result (λ _ read. (
       read.0,
       read.1,
       λ ms held.
@@ -99,4 +99,4 @@ returns-in-lock_aware c =
             slot_put as_bool k read.0 f.lock_aware new ms read.2,
             omega (arith, more.0, more.1, more.2, held.5),
           ),
-    )) c.take_into-in-lock_aware.ensures)
+    )) c.take_into_slot-in-lock_aware.ensures)

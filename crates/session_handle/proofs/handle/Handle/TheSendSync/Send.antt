@@ -17,6 +17,10 @@ use Rattle.system_keys.specs.contracts.items.Items.{the_row as Items}
 use Rattle.system_keys.specs.contracts.items.Items.TheInside as inside
 use Rattle.system_keys.specs.declared.items.Items as items
 use Rattle.system_keys.specs.declared.items.Items.TheView as seen
+use Rattle.system_keys.specs.contracts.shared_items.SharedItems.{the_row as SharedItems}
+use Rattle.system_keys.specs.contracts.shared_items.SharedItems.TheInside as shared_inside
+use Rattle.system_keys.specs.declared.shared_items.SharedItems as shared_items
+use Rattle.system_keys.specs.declared.shared_items.SharedItems.TheView as shared_seen
 use Rattle.session_texts.specs.Sessions.{SessionView}
 use Rattle.session_texts.specs.contracts.text_session.TextSession.{the_row as TextSession}
 use Rattle.session_handle.specs.Owned.{handle_owns}
@@ -40,9 +44,9 @@ use Rattle.metadata.specs.contracts.key_runs.KeyRuns.{the_row as metadata-KeyRun
 use Rattle.metadata.specs.contracts.key_set.KeySet.{the_row as metadata-KeySet}
 use Rattle.metadata.specs.contracts.server_table.ServerTable.{the_row as metadata-ServerTable}
 use Rattle.metadata.specs.contracts.row_names.RowNames.{the_row as metadata-RowNames}
+use Rattle.metadata.specs.contracts.row.Row.{the_row as metadata-Row}
 use Rattle.metadata.specs.contracts.entry_map.EntryMap.{the_row as metadata-EntryMap}
 use Rattle.metadata.specs.contracts.kept_entries.KeptEntries.{the_row as metadata-KeptEntries}
-use Rattle.metadata.specs.contracts.tag_map.TagMap.{the_row as metadata-TagMap}
 use Rattle.metadata.specs.contracts.metadata.Metadata.{the_row as metadata-Metadata}
 use Rattle.request_builder.specs.contracts.moves.Moves.{the_row as request_builder-Moves}
 use Rattle.request_builder.specs.contracts.share.Share.{the_row as request_builder-Share}
@@ -53,8 +57,8 @@ use Rattle.share_judge.specs.contracts.write_history.WriteHistory.{the_row as sh
 use Rattle.state_memory.specs.contracts.proxy_memory.ProxyMemory.{the_row as state_memory-ProxyMemory}
 use Rattle.state_memory.specs.contracts.resolver.Resolver.{the_row as state_memory-Resolver}
 use Rattle.proxy_state.specs.contracts.owned_moves.OwnedMoves.{the_row as proxy_state-OwnedMoves}
-use Rattle.proxy_state.specs.contracts.owners.ProxyOwners.{the_row as proxy_state-ProxyOwners}
-use Rattle.proxy_state.specs.contracts.begun.BegunRecord.{the_row as proxy_state-BegunRecord}
+use Rattle.proxy_state.specs.contracts.proxy_owners.ProxyOwners.{the_row as proxy_state-ProxyOwners}
+use Rattle.proxy_state.specs.contracts.begun_record.BegunRecord.{the_row as proxy_state-BegunRecord}
 use Rattle.proxy_state.specs.contracts.proxy.Proxy.{the_row as proxy_state-Proxy}
 use Rattle.turn_world.specs.contracts.sent_requests.SentRequests.{the_row as turn_world-SentRequests}
 use Rattle.turn_world.specs.contracts.past_record.PastRecord as turn_world-PastRecord
@@ -67,6 +71,12 @@ Items-send T s = view_send (inside.the_row T) (items.Items T.Denot) (items.the_c
 
 Items-sync : (T : RattleType) → IsSync T → IsSync (Items T)
 Items-sync T s = view_sync (inside.the_row T) (items.Items T.Denot) (items.the_code T.Denot T.coded) (seen.view T.Denot) (seen.invariant T.Denot) (search (crosses, sendable) depth 30)
+
+SharedItems-send : (T : RattleType) → IsSend T → IsSync T → IsSend (SharedItems T)
+SharedItems-send T s y = view_send (shared_inside.the_row T) (shared_items.SharedItems T.Denot) (shared_items.the_code T.Denot T.coded) (shared_seen.view T.Denot) (shared_seen.invariant T.Denot) (search (Items-send, Items-sync, crosses, sendable) depth 30)
+
+SharedItems-sync : (T : RattleType) → IsSend T → IsSync T → IsSync (SharedItems T)
+SharedItems-sync T s y = view_sync (shared_inside.the_row T) (shared_items.SharedItems T.Denot) (shared_items.the_code T.Denot T.coded) (shared_seen.view T.Denot) (shared_seen.invariant T.Denot) (search (Items-send, Items-sync, crosses, sendable) depth 30)
 
 system_keys-Bytes-send : IsSend system_keys-Bytes
 system_keys-Bytes-send = search (crosses, sendable) depth 60 fits 20000
@@ -105,16 +115,16 @@ model-Part-send : IsSend model-Part
 model-Part-send = search (system_keys-KeyRange-send, Items-send, crosses, sendable) depth 60 fits 20000
 
 model-StateTxn-send : IsSend model-StateTxn
-model-StateTxn-send = search (system_keys-Change-send, Items-send, crosses, sendable) depth 60 fits 20000
+model-StateTxn-send = search (system_keys-Change-send, system_keys-Change-sync, Items-send, SharedItems-send, crosses, sendable) depth 60 fits 20000
 
 model-JournalRow-send : IsSend model-JournalRow
 model-JournalRow-send = search (model-StateTxn-send, Items-send, crosses, sendable) depth 60 fits 20000
 
 model-Reply-send : IsSend model-Reply
-model-Reply-send = search (system_keys-Change-send, Items-send, crosses, sendable) depth 60 fits 20000
+model-Reply-send = search (system_keys-Change-send, system_keys-Change-sync, Items-send, Items-sync, SharedItems-send, SharedItems-sync, crosses, sendable) depth 60 fits 20000
 
 model-StateMark-send : IsSend model-StateMark
-model-StateMark-send = search (system_keys-Change-send, Items-send, crosses, sendable) depth 60 fits 20000
+model-StateMark-send = search (system_keys-Change-send, system_keys-Change-sync, SharedItems-send, crosses, sendable) depth 60 fits 20000
 
 mutation-Ranges-send : IsSend mutation-Ranges
 mutation-Ranges-send = search (system_keys-KeyRange-send, Items-send, crosses, sendable) depth 60 fits 20000
@@ -146,17 +156,17 @@ metadata-ServerTable-send = search (crosses, maps.crosses, sendable) depth 60 fi
 metadata-RowNames-send : IsSend metadata-RowNames
 metadata-RowNames-send = search (Items-send, crosses, sendable) depth 60 fits 20000
 
+metadata-Row-send : IsSend metadata-Row
+metadata-Row-send = search (system_keys-Bytes-send, metadata-RowNames-send, crosses, sendable) depth 60 fits 20000
+
 metadata-EntryMap-send : IsSend metadata-EntryMap
-metadata-EntryMap-send = search (system_keys-Bytes-send, crosses, maps.crosses, sendable) depth 60 fits 20000
+metadata-EntryMap-send = search (metadata-Row-send, crosses, maps.crosses, sendable) depth 60 fits 20000
 
 metadata-KeptEntries-send : IsSend metadata-KeptEntries
 metadata-KeptEntries-send = search (metadata-EntryMap-send, crosses, sendable) depth 60 fits 20000
 
-metadata-TagMap-send : IsSend metadata-TagMap
-metadata-TagMap-send = search (system_keys-OrderedKey-send, metadata-RowNames-send, crosses, maps.crosses, sendable) depth 60 fits 20000
-
 metadata-Metadata-send : IsSend metadata-Metadata
-metadata-Metadata-send = search (metadata-KeyRuns-send, metadata-KeySet-send, metadata-ServerTable-send, metadata-KeptEntries-send, metadata-TagMap-send, crosses, sendable) depth 60 fits 20000
+metadata-Metadata-send = search (metadata-KeyRuns-send, metadata-KeySet-send, metadata-ServerTable-send, metadata-KeptEntries-send, crosses, sendable) depth 60 fits 20000
 
 request_builder-Moves-send : IsSend request_builder-Moves
 request_builder-Moves-send = search (model-Move-send, model-Move-sync, Items-send, Items-sync, crosses, sendable) depth 60 fits 20000
@@ -180,7 +190,7 @@ state_memory-ProxyMemory-send : IsSend state_memory-ProxyMemory
 state_memory-ProxyMemory-send = search (model-Reply-send, crosses, sendable) depth 60 fits 20000
 
 state_memory-Resolver-send : IsSend state_memory-Resolver
-state_memory-Resolver-send = search (system_keys-Change-send, share_judge-WriteHistory-send, state_memory-ProxyMemory-send, Items-send, crosses, sendable) depth 60 fits 20000
+state_memory-Resolver-send = search (system_keys-Change-send, system_keys-Change-sync, share_judge-WriteHistory-send, state_memory-ProxyMemory-send, Items-send, SharedItems-send, crosses, sendable) depth 60 fits 20000
 
 proxy_state-OwnedMoves-send : IsSend proxy_state-OwnedMoves
 proxy_state-OwnedMoves-send = search (dated_owners-OwnerMap-send, request_builder-Moves-send, crosses, sendable) depth 60 fits 20000

@@ -23,29 +23,29 @@ judge_parts-requires-clause-dropped c =
 pub invariant_of-self : goal.invariant_of-self
 invariant_of-self c =
     let above = last_below c.args.self.now c.self.inside.window c.self.inside.last c.self.inside.dropped c.args.version (starts_now c.self.inside.steps) c.self.view_is c.requires in
-    same_kept c.self.inside.last c.self.inside.dropped (starts_now c.self.inside.steps) (starts_now c.take_back.new.self) c.self.invariant
-    (read_rising (λ (step : Step). step.version) c.take_back.new.self c.take_back.ensures.rising)
-    (back_same c.args.version c.self.inside.steps c.judge_parts.new.steps c.take_back.new.self c.self.invariant.rising
-    (all_below c.self.inside.last c.self.inside.dropped c.args.version (starts_now c.self.inside.steps) c.self.invariant above) c.judge_parts.ensures.before c.take_back.ensures.back)
+    same_kept c.self.inside.last c.self.inside.dropped (starts_now c.self.inside.steps) (starts_now c.take_back_share.new.self) c.self.invariant
+    (read_rising (λ (step : Step). step.version) c.take_back_share.new.self c.take_back_share.ensures.rising)
+    (back_same c.args.version c.self.inside.steps c.judge_parts.new.steps c.take_back_share.new.self c.self.invariant.rising
+    (all_below c.self.inside.last c.self.inside.dropped c.args.version (starts_now c.self.inside.steps) c.self.invariant above) c.judge_parts.ensures.before c.take_back_share.ensures.back)
 
 pub returns-in_default-clause-err : goal.returns-in_default-clause-err
 returns-in_default-clause-err c =
     let above = last_below c.args.self.now c.self.inside.window c.self.inside.last c.self.inside.dropped c.args.version (starts_now c.self.inside.steps) c.self.view_is c.requires in
-    same_seen c.self.inside.window c.self.inside.last c.self.inside.dropped (starts_now c.self.inside.steps) (starts_now c.take_back.new.self)
-    (back_same c.args.version c.self.inside.steps c.judge_parts.new.steps c.take_back.new.self c.self.invariant.rising
-    (all_below c.self.inside.last c.self.inside.dropped c.args.version (starts_now c.self.inside.steps) c.self.invariant above) c.judge_parts.ensures.before c.take_back.ensures.back)
+    same_seen c.self.inside.window c.self.inside.last c.self.inside.dropped (starts_now c.self.inside.steps) (starts_now c.take_back_share.new.self)
+    (back_same c.args.version c.self.inside.steps c.judge_parts.new.steps c.take_back_share.new.self c.self.invariant.rising
+    (all_below c.self.inside.last c.self.inside.dropped c.args.version (starts_now c.self.inside.steps) c.self.invariant above) c.judge_parts.ensures.before c.take_back_share.ensures.back)
     ∙ c.self.view_is
 
-pub take_out_repeated-requires : goal.take_out_repeated-requires
-take_out_repeated-requires c = subst (HaveVersion c.args.version (starts_now c.judge_parts.new.steps)) (sym c.deref.ensures.value) c.in-Ok.ensures.listed
+pub remove_repeated_starts-requires : goal.remove_repeated_starts-requires
+remove_repeated_starts-requires c = subst (HaveVersion c.args.version (starts_now c.judge_parts.new.steps)) (sym c.deref.ensures.value) c.in-Ok.ensures.listed
 
 pub invariant_of-self-2 : goal.invariant_of-self-2
 invariant_of-self-2 c =
     let read = λ (step : Step). step.version in
     let above = last_below c.args.self.now c.self.inside.window c.self.inside.last c.self.inside.dropped c.args.version (starts_now c.self.inside.steps) c.self.view_is c.requires in
-    kept_next c.self.inside.window c.self.inside.dropped c.args.version (starts_now c.self.inside.steps) (starts_now c.judge_parts.new.steps) (starts_now c.take_out_repeated.new.self) c.parts.result.now c.in-Ok.verdicts.items
+    kept_next c.self.inside.window c.self.inside.dropped c.args.version (starts_now c.self.inside.steps) (starts_now c.judge_parts.new.steps) (starts_now c.remove_repeated_starts.new.self) c.parts.result.now c.in-Ok.verdicts.items
     (dropped_below c.self.inside.last c.self.inside.dropped c.args.version (starts_now c.self.inside.steps) c.self.invariant above)
-    (read_rising read c.judge_parts.new.steps c.judge_parts.ensures.rising) (read_rising read c.take_out_repeated.new.self (c.take_out_repeated.ensures.rising c.judge_parts.ensures.rising)) c.take_out_repeated.ensures.same c.in-Ok.ensures.judged
+    (read_rising read c.judge_parts.new.steps c.judge_parts.ensures.rising) (read_rising read c.remove_repeated_starts.new.self (c.remove_repeated_starts.ensures.rising c.judge_parts.ensures.rising)) c.remove_repeated_starts.ensures.same c.in-Ok.ensures.judged
 
 pub returns-clause-verdicts : goal.returns-clause-verdicts
 returns-clause-verdicts c =
@@ -54,5 +54,5 @@ returns-clause-verdicts c =
 pub returns-clause-stands : goal.returns-clause-stands
 returns-clause-stands c =
     let read = λ (step : Step). step.version in
-    shown_gain c.args.self.now c.self.inside.window c.self.inside.last c.self.inside.dropped c.args.version c.parts.result.now c.args.share.now (starts_now c.self.inside.steps) (starts_now c.judge_parts.new.steps) (starts_now c.take_out_repeated.new.self) c.in-Ok.verdicts.items c.self.view_is c.parts.ensures c.self.invariant c.requires
-    (read_rising read c.judge_parts.new.steps c.judge_parts.ensures.rising) (read_rising read c.take_out_repeated.new.self (c.take_out_repeated.ensures.rising c.judge_parts.ensures.rising)) c.take_out_repeated.ensures.same c.in-Ok.ensures.judged
+    shown_gain c.args.self.now c.self.inside.window c.self.inside.last c.self.inside.dropped c.args.version c.parts.result.now c.args.share.now (starts_now c.self.inside.steps) (starts_now c.judge_parts.new.steps) (starts_now c.remove_repeated_starts.new.self) c.in-Ok.verdicts.items c.self.view_is c.parts.ensures c.self.invariant c.requires
+    (read_rising read c.judge_parts.new.steps c.judge_parts.ensures.rising) (read_rising read c.remove_repeated_starts.new.self (c.remove_repeated_starts.ensures.rising c.judge_parts.ensures.rising)) c.remove_repeated_starts.ensures.same c.in-Ok.ensures.judged

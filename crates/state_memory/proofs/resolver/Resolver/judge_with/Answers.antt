@@ -74,7 +74,7 @@ returns-clause-judged g c =
           let told = c.in-Ok.ensures.made.unseen one here ∙ ap (rows_above one.last) rows in
           let row_is = row_made c.args.request.now c.in_ok-verdicts.verdicts c.version-2.result c.from.result c.version-2.ensures (c.from.ensures ∙ c.judge_states.ensures ∙ ap (λ vs. map (reply_state_of_mark c.args.request.now.share vs) c.args.request.now.states) c.as_slice-2.ensures) in
           let many = as_many_verdicts c.args.self.now judged c.args.request.now c.in_ok-verdicts.verdicts stands are in
-          let reply_is = c.reply-noted.ensures ∙ (λ k. reply_of c.args.request.now ((c.from-2.ensures ∙ c.copy_verdicts.ensures (c.in-Ok.ensures.made.places ∙ sym many ∙ ap length (sym c.as_slice.ensures)) ∙ c.as_slice.ensures) k) ((c.in-Ok.ensures.made.copy ∙ told) k)) in
+          let reply_is = c.reply-noted.ensures ∙ (λ k. reply_of c.args.request.now ((c.from-2.ensures ∙ c.overwrite_verdicts.ensures (c.in-Ok.ensures.made.places ∙ sym many ∙ ap length (sym c.as_slice.ensures)) ∙ c.as_slice.ensures) k) ((c.in-Ok.ensures.made.copy ∙ told) k)) in
           judged_memory c.args.self.now _ one judged c.args.request.now c.in_ok-verdicts.verdicts c.reply-noted.result (record { version = c.version-2.result; states = c.from.result }) c.judge_with.new.self _ stands c.requires.next at are gains c.forget.ensures.stands
           (c.forget.ensures.window ∙ c.in_ok-verdicts.ensures.window ∙ ap (λ (w : WriteHistoryView). w.window) history)
           (ap (λ (v : ResolverView). v.number) c.self.view_is) c.version-self-inside.ensures row_is reply_is

@@ -9,5 +9,5 @@ returns-clause-stands c =
       version = refl;
       written = c.in_ok-new.ensures.stands;
       rows = c.new-2.ensures.items;
-      proxies = c.in_ok-new_proxies.ensures.each;
+      proxies = c.in_ok-new_proxy_memories.ensures.each;
     })

@@ -2,12 +2,12 @@
 use Rattle.std.proofs.Common.{◌≡◌, ◌∙◌, ℕ, List, ◌≤◌, length, sym, ap, ap₂, nat_cmp, get_or, min, arith}
 use Rattle.std.specs.Cmp.Lexicographic.{slice_cmp}
 use Rattle.std.specs.Int.{w128, from_be_bytes}
-use Rattle.system_keys.specs.OrderedKeys.{front_of, key_of}
+use Rattle.system_keys.specs.OrderedKeys.{front_and_length, key_of}
 use Rattle.system_keys.proofs.OrderedKeys.{head_of, head_is, by_heads, by_front, counted}
 use Rattle.system_keys.proofs.ordered_key.OrderedKeyOrd.cmp.Goals as goal
 
 -- the number of a front is the head of its key
-number : (front : List ℕ) (key : List ℕ) (n : ℕ) → n ≡ from_be_bytes w128 front → front ≡ front_of key → n ≡ head_of key
+number : (front : List ℕ) (key : List ℕ) (n : ℕ) → n ≡ from_be_bytes w128 front → front ≡ front_and_length key → n ≡ head_of key
 number front key n read is = read ∙ ap (from_be_bytes w128) is ∙ head_is key
 
 pub returns-then-own-others : goal.returns-then-own-others

@@ -42,14 +42,14 @@ invariant_of-self-2 c =
     let w = world_of t.rows.items t.moves t.judged_counts.items t.finished.items in
     let may = may_here t.config w c.args.self.now c.args.proxy c.self.view_is c.requires.may in
     let rec_is : c.args.rec.now ≡ next_record t.config w c.args.proxy c.requires.next.0 = record_is t.config w c.args.self.now c.args.proxy c.requires.next.0 c.args.rec.now c.self.view_is c.requires.next.1 in
-    let row : KeptRecord = record { rec = record { known = c.args.rec.now }; received = c.version-received.result; sent = record { known = c.in_ok-requests.requests }; kept = record { requests = c.from.result } } in
+    let row : KeptRecord = record { rec = record { known = c.args.rec.now }; proxy = c.args.proxy; received = c.version-received.result; sent = record { known = c.in_ok-requests.requests }; kept = record { requests = c.from.result } } in
     let within : c.args.proxy < length t.proxies.items = omega (arith, may.there, c.self.invariant.0.parts.proxy_count) in
     let at = got t.proxies.items c.args.proxy c.index.result.now within c.index.ensures in
     let received : c.version-received.result ≡ finished_version w c.args.proxy = c.version-received.ensures ∙ (c.self.invariant.0.parts.each_proxy c.args.proxy c.index.result.now at).version in
-    let is : c.push_reserved.new.self.items ≡ t.rows.items ++ row ∷ [] = c.push_reserved.ensures.items ∙ ap (λ (rs : List KeptRecord). rs ++ record { rec = c.of.result; received = c.version-received.result; sent = c.of-2.result; kept = record { requests = c.from.result } } ∷ []) c.reserve.ensures.items ∙ (λ i. t.rows.items ++ record { rec = record { known = c.of.ensures i }; received = c.version-received.result; sent = record { known = (c.of-2.ensures ∙ c.from.ensures) i }; kept = record { requests = c.from.result } } ∷ []) in (
+    let is : c.push_reserved.new.self.items ≡ t.rows.items ++ row ∷ [] = c.push_reserved.ensures.items ∙ ap (λ (rs : List KeptRecord). rs ++ record { rec = c.of.result; proxy = c.args.proxy; received = c.version-received.result; sent = c.of-2.result; kept = record { requests = c.from.result } } ∷ []) c.reserve.ensures.items ∙ (λ i. t.rows.items ++ record { rec = record { known = c.of.ensures i }; proxy = c.args.proxy; received = c.version-received.result; sent = record { known = (c.of-2.ensures ∙ c.from.ensures) i }; kept = record { requests = c.from.result } } ∷ []) in (
       subst (IsKept t.config (world_of c.push_reserved.new.self.items t.moves t.judged_counts.items t.finished.items) t.resolvers.items c.begin_at.new.proxies.items (requests_of c.push_reserved.new.self.items)) (sym c.version-version.ensures.value)
           (kept t.config c.args.proxy c.requires.next.0 t.rows.items c.push_reserved.new.self.items row t.moves t.judged_counts.items t.finished.items t.resolvers.items t.proxies.items c.begin_at.new.proxies.items t.last c.self.invariant.0 is rec_is received may.there may.limit c.in_ok-requests.ensures.begun),
-      pushed_kept t.judged_counts.items t.rows.items c.push_reserved.new.self.items row is c.from.ensures c.self.invariant.1,
+      pushed_kept t.judged_counts.items t.rows.items c.push_reserved.new.self.items row is (sym (ap (λ (r : Record). r.proxy) rec_is)) c.from.ensures c.self.invariant.1,
     )
 
 pub returns-clause-answer : goal.returns-clause-answer
@@ -69,10 +69,10 @@ returns-clause-ok c batch next =
     let w = world_of t.rows.items t.moves t.judged_counts.items t.finished.items in
     let may = may_here t.config w c.args.self.now c.args.proxy c.self.view_is c.requires.may in
     let rec_is : c.args.rec.now ≡ next_record t.config w c.args.proxy batch = record_is t.config w c.args.self.now c.args.proxy batch c.args.rec.now c.self.view_is next in
-    let row : KeptRecord = record { rec = record { known = c.args.rec.now }; received = c.version-received.result; sent = record { known = c.in_ok-requests.requests }; kept = record { requests = c.from.result } } in
+    let row : KeptRecord = record { rec = record { known = c.args.rec.now }; proxy = c.args.proxy; received = c.version-received.result; sent = record { known = c.in_ok-requests.requests }; kept = record { requests = c.from.result } } in
     let within : c.args.proxy < length t.proxies.items = omega (arith, may.there, c.self.invariant.0.parts.proxy_count) in
     let at = got t.proxies.items c.args.proxy c.index.result.now within c.index.ensures in
     let received : c.version-received.result ≡ finished_version w c.args.proxy = c.version-received.ensures ∙ (c.self.invariant.0.parts.each_proxy c.args.proxy c.index.result.now at).version in
-    let is : c.push_reserved.new.self.items ≡ t.rows.items ++ row ∷ [] = c.push_reserved.ensures.items ∙ ap (λ (rs : List KeptRecord). rs ++ record { rec = c.of.result; received = c.version-received.result; sent = c.of-2.result; kept = record { requests = c.from.result } } ∷ []) c.reserve.ensures.items ∙ (λ i. t.rows.items ++ record { rec = record { known = c.of.ensures i }; received = c.version-received.result; sent = record { known = (c.of-2.ensures ∙ c.from.ensures) i }; kept = record { requests = c.from.result } } ∷ []) in
+    let is : c.push_reserved.new.self.items ≡ t.rows.items ++ row ∷ [] = c.push_reserved.ensures.items ∙ ap (λ (rs : List KeptRecord). rs ++ record { rec = c.of.result; proxy = c.args.proxy; received = c.version-received.result; sent = c.of-2.result; kept = record { requests = c.from.result } } ∷ []) c.reserve.ensures.items ∙ (λ i. t.rows.items ++ record { rec = record { known = c.of.ensures i }; proxy = c.args.proxy; received = c.version-received.result; sent = record { known = (c.of-2.ensures ∙ c.from.ensures) i }; kept = record { requests = c.from.result } } ∷ []) in
     after t.config w (world_of c.push_reserved.new.self.items t.moves t.judged_counts.items t.finished.items) c.args.self.now c.args.proxy batch c.self.view_is
     (world_is t.config c.args.proxy batch t.rows.items c.push_reserved.new.self.items row t.moves t.judged_counts.items t.finished.items is rec_is received may.there may.limit)

@@ -27,8 +27,8 @@ returns-in_default-clause-answer c =
     let at = got t.proxies.items c.args.proxy c.index.result.now (omega (arith, there, c.self.invariant.0.parts.proxy_count)) c.index.ensures in
     none_begun t.config w c.args.self.now c.args.proxy c.index.result.now t.resolvers.items t.proxies.items (requests_of t.rows.items) c.self.view_is c.self.invariant.0.parts there at c.in_default.ensures.first
 
-pub returns-in-Some-first_missing-clause-answer : goal.returns-in-Some-first_missing-clause-answer
-returns-in-Some-first_missing-clause-answer c =
+pub returns-in-Some-first_not_judged-clause-answer : goal.returns-in-Some-first_not_judged-clause-answer
+returns-in-Some-first_not_judged-clause-answer c =
     let t = c.self.inside in
     let w = world_of t.rows.items t.moves t.judged_counts.items t.finished.items in
     let there : c.args.proxy < t.config.proxies = omega (arith, c.proxies.ensures.value, c.if-proxies-proxy.false) in
@@ -40,7 +40,7 @@ returns-in-Some-first_missing-clause-answer c =
     let is : IsAwaited t.config w c.args.proxy rec rest v t.resolvers.items t.proxies.items requests = record { parts = c.self.invariant.0.parts; there = there; proxy_is = at; begun = c.in-Some.ensures.first.1 } in
     let row : c.row-row.result ≡ rec.row = c.row-row.ensures in
     let counts : c.as_slice.result.now ≡ t.judged_counts.items = c.as_slice.ensures.value in
-    first_named t.config w c.args.self.now c.args.proxy rec rest v t.resolvers.items t.proxies.items requests c.in-Some-first_missing.resolver c.self.view_is is (c.in-Some-first_missing.ensures ∙ (λ i. slice_get (missing_of (row i) (counts i)) 0))
+    first_named t.config w c.args.self.now c.args.proxy rec rest v t.resolvers.items t.proxies.items requests c.in-Some-first_not_judged.resolver c.self.view_is is (c.in-Some-first_not_judged.ensures ∙ (λ i. slice_get (missing_of (row i) (counts i)) 0))
 
 pub kept_replies_at-requires-clause-kept : goal.kept_replies_at-requires-clause-kept
 kept_replies_at-requires-clause-kept c =
@@ -55,7 +55,7 @@ kept_replies_at-requires-clause-kept c =
     let is : IsAwaited t.config w c.args.proxy rec rest v t.resolvers.items t.proxies.items requests = record { parts = c.self.invariant.0.parts; there = there; proxy_is = at; begun = c.in-Some.ensures.first.1 } in
     let row : c.row-row.result ≡ rec.row = c.row-row.ensures in
     let counts : c.as_slice.result.now ≡ t.judged_counts.items = c.as_slice.ensures.value in
-    let first : None ≡ slice_get (missing_of rec.row t.judged_counts.items) 0 = c.in_default-first_missing.ensures ∙ (λ i. slice_get (missing_of (row i) (counts i)) 0) in
+    let first : None ≡ slice_get (missing_of rec.row t.judged_counts.items) 0 = c.in_default-first_not_judged.ensures ∙ (λ i. slice_get (missing_of (row i) (counts i)) 0) in
     let none = none_missing t.config w c.args.proxy rec rest v t.resolvers.items t.proxies.items requests is first in
     let version : c.version-version.result ≡ rec.version = c.version-version.ensures.value in
     let resolvers : c.as_slice-resolvers.result.now ≡ t.resolvers.items = c.as_slice-resolvers.ensures.value in
@@ -74,7 +74,7 @@ returns-in_err-replies-clause-answer c =
     let is : IsAwaited t.config w c.args.proxy rec rest v t.resolvers.items t.proxies.items requests = record { parts = c.self.invariant.0.parts; there = there; proxy_is = at; begun = c.in-Some.ensures.first.1 } in
     let row : c.row-row.result ≡ rec.row = c.row-row.ensures in
     let counts : c.as_slice.result.now ≡ t.judged_counts.items = c.as_slice.ensures.value in
-    let first : None ≡ slice_get (missing_of rec.row t.judged_counts.items) 0 = c.in_default-first_missing.ensures ∙ (λ i. slice_get (missing_of (row i) (counts i)) 0) in
+    let first : None ≡ slice_get (missing_of rec.row t.judged_counts.items) 0 = c.in_default-first_not_judged.ensures ∙ (λ i. slice_get (missing_of (row i) (counts i)) 0) in
     let none = none_missing t.config w c.args.proxy rec rest v t.resolvers.items t.proxies.items requests is first in
     let out : c.from_residual.result ≡ Err refusals.OutOfMemory = search rules in
     subst (AnswersEvent c.args.self.now (Finish c.args.proxy)) (sym out) (not_refused t.config w c.args.self.now c.args.proxy rec rest v t.resolvers.items t.proxies.items requests c.self.view_is is none)
@@ -92,7 +92,7 @@ returns-in_err-finished-clause-answer c =
     let is : IsAwaited t.config w c.args.proxy rec rest v t.resolvers.items t.proxies.items requests = record { parts = c.self.invariant.0.parts; there = there; proxy_is = at; begun = c.in-Some.ensures.first.1 } in
     let row : c.row-row.result ≡ rec.row = c.row-row.ensures in
     let counts : c.as_slice.result.now ≡ t.judged_counts.items = c.as_slice.ensures.value in
-    let first : None ≡ slice_get (missing_of rec.row t.judged_counts.items) 0 = c.in_default-first_missing.ensures ∙ (λ i. slice_get (missing_of (row i) (counts i)) 0) in
+    let first : None ≡ slice_get (missing_of rec.row t.judged_counts.items) 0 = c.in_default-first_not_judged.ensures ∙ (λ i. slice_get (missing_of (row i) (counts i)) 0) in
     let none = none_missing t.config w c.args.proxy rec rest v t.resolvers.items t.proxies.items requests is first in
     let out : c.from_residual-in_err-finished.result ≡ Err refusals.OutOfMemory = search rules in
     subst (AnswersEvent c.args.self.now (Finish c.args.proxy)) (sym out) (not_refused t.config w c.args.self.now c.args.proxy rec rest v t.resolvers.items t.proxies.items requests c.self.view_is is none)
@@ -126,7 +126,7 @@ finish_at-requires c =
     let is : IsAwaited t.config w c.args.proxy rec rest v t.resolvers.items t.proxies.items requests = record { parts = c.self.invariant.0.parts; there = there; proxy_is = at; begun = c.in-Some.ensures.first.1 } in
     let row : c.row-row.result ≡ rec.row = c.row-row.ensures in
     let counts : c.as_slice.result.now ≡ t.judged_counts.items = c.as_slice.ensures.value in
-    let first : None ≡ slice_get (missing_of rec.row t.judged_counts.items) 0 = c.in_default-first_missing.ensures ∙ (λ i. slice_get (missing_of (row i) (counts i)) 0) in
+    let first : None ≡ slice_get (missing_of rec.row t.judged_counts.items) 0 = c.in_default-first_not_judged.ensures ∙ (λ i. slice_get (missing_of (row i) (counts i)) 0) in
     let none = none_missing t.config w c.args.proxy rec rest v t.resolvers.items t.proxies.items requests is first in
     let version : c.version-version.result ≡ rec.version = c.version-version.ensures.value in
     let resolvers : c.as_slice-resolvers.result.now ≡ t.resolvers.items = c.as_slice-resolvers.ensures.value in
@@ -148,7 +148,7 @@ invariant_of-self-2 c =
     let is : IsAwaited t.config w c.args.proxy rec rest v t.resolvers.items t.proxies.items requests = record { parts = c.self.invariant.0.parts; there = there; proxy_is = at; begun = c.in-Some.ensures.first.1 } in
     let row : c.row-row.result ≡ rec.row = c.row-row.ensures in
     let counts : c.as_slice.result.now ≡ t.judged_counts.items = c.as_slice.ensures.value in
-    let first : None ≡ slice_get (missing_of rec.row t.judged_counts.items) 0 = c.in_default-first_missing.ensures ∙ (λ i. slice_get (missing_of (row i) (counts i)) 0) in
+    let first : None ≡ slice_get (missing_of rec.row t.judged_counts.items) 0 = c.in_default-first_not_judged.ensures ∙ (λ i. slice_get (missing_of (row i) (counts i)) 0) in
     let none = none_missing t.config w c.args.proxy rec rest v t.resolvers.items t.proxies.items requests is first in
     let version : c.version-version.result ≡ rec.version = c.version-version.ensures.value in
     let resolvers : c.as_slice-resolvers.result.now ≡ t.resolvers.items = c.as_slice-resolvers.ensures.value in
@@ -160,11 +160,11 @@ invariant_of-self-2 c =
     let count : c.index-2.result.now + 1 ≡ suc (slice_index t.finished.items c.args.proxy) = counted t.finished.items c.args.proxy c.index-2.result.now within c.index-2.ensures in
     let after = c.finish_at.new.proxies.items in
     let finished = c.in_ok-finished.finished in
-    let dropped = c.drop_parts_at.ensures in
-    let rows = c.drop_parts_at.new.rows.items in
+    let dropped = c.drop_requests_at.ensures in
+    let rows = c.drop_requests_at.new.rows.items in
     let counted_up = slice_set t.finished.items c.args.proxy (c.index-2.result.now + 1) in
     let world : world_of rows t.moves t.judged_counts.items counted_up ≡ record w { finished = counted_up } = λ i. record { history = dropped.records i; moves = t.moves; received = dropped.received i; judged_counts = t.judged_counts.items; finished = counted_up } in
-    let judged = all_judged c.row-row.result t.judged_counts.items (c.in_default-first_missing.ensures ∙ (λ i. slice_get (missing_of c.row-row.result (counts i)) 0)) in (
+    let judged = all_judged c.row-row.result t.judged_counts.items (c.in_default-first_not_judged.ensures ∙ (λ i. slice_get (missing_of c.row-row.result (counts i)) 0)) in (
       subst (λ (x : World). IsKept t.config x t.resolvers.items after (requests_of rows) t.last) (sym world)
           (subst (λ (qs : List (List Request)). IsKept t.config (record w { finished = counted_up }) t.resolvers.items after qs t.last) (sym dropped.sent)
           (kept t.config w c.args.proxy (c.index-2.result.now + 1) t.last rec rest v t.resolvers.items t.proxies.items after requests replies finished c.self.invariant.0 is of_world done count)),
@@ -184,7 +184,7 @@ returns-clause-answer c =
     let is : IsAwaited t.config w c.args.proxy rec rest v t.resolvers.items t.proxies.items requests = record { parts = c.self.invariant.0.parts; there = there; proxy_is = at; begun = c.in-Some.ensures.first.1 } in
     let row : c.row-row.result ≡ rec.row = c.row-row.ensures in
     let counts : c.as_slice.result.now ≡ t.judged_counts.items = c.as_slice.ensures.value in
-    let first : None ≡ slice_get (missing_of rec.row t.judged_counts.items) 0 = c.in_default-first_missing.ensures ∙ (λ i. slice_get (missing_of (row i) (counts i)) 0) in
+    let first : None ≡ slice_get (missing_of rec.row t.judged_counts.items) 0 = c.in_default-first_not_judged.ensures ∙ (λ i. slice_get (missing_of (row i) (counts i)) 0) in
     let none = none_missing t.config w c.args.proxy rec rest v t.resolvers.items t.proxies.items requests is first in
     let version : c.version-version.result ≡ rec.version = c.version-version.ensures.value in
     let resolvers : c.as_slice-resolvers.result.now ≡ t.resolvers.items = c.as_slice-resolvers.ensures.value in
@@ -211,7 +211,7 @@ returns-clause-ok c =
     let is : IsAwaited t.config w c.args.proxy rec rest v t.resolvers.items t.proxies.items requests = record { parts = c.self.invariant.0.parts; there = there; proxy_is = at; begun = c.in-Some.ensures.first.1 } in
     let row : c.row-row.result ≡ rec.row = c.row-row.ensures in
     let counts : c.as_slice.result.now ≡ t.judged_counts.items = c.as_slice.ensures.value in
-    let first : None ≡ slice_get (missing_of rec.row t.judged_counts.items) 0 = c.in_default-first_missing.ensures ∙ (λ i. slice_get (missing_of (row i) (counts i)) 0) in
+    let first : None ≡ slice_get (missing_of rec.row t.judged_counts.items) 0 = c.in_default-first_not_judged.ensures ∙ (λ i. slice_get (missing_of (row i) (counts i)) 0) in
     let none = none_missing t.config w c.args.proxy rec rest v t.resolvers.items t.proxies.items requests is first in
     let version : c.version-version.result ≡ rec.version = c.version-version.ensures.value in
     let resolvers : c.as_slice-resolvers.result.now ≡ t.resolvers.items = c.as_slice-resolvers.ensures.value in
@@ -223,8 +223,8 @@ returns-clause-ok c =
     let count : c.index-2.result.now + 1 ≡ suc (slice_index t.finished.items c.args.proxy) = counted t.finished.items c.args.proxy c.index-2.result.now within c.index-2.ensures in
     let after = c.finish_at.new.proxies.items in
     let finished = c.in_ok-finished.finished in
-    let dropped = c.drop_parts_at.ensures in
-    let rows = c.drop_parts_at.new.rows.items in
+    let dropped = c.drop_requests_at.ensures in
+    let rows = c.drop_requests_at.new.rows.items in
     let counted_up = slice_set t.finished.items c.args.proxy (c.index-2.result.now + 1) in
     let world : world_of rows t.moves t.judged_counts.items counted_up ≡ record w { finished = counted_up } = λ i. record { history = dropped.records i; moves = t.moves; received = dropped.received i; judged_counts = t.judged_counts.items; finished = counted_up } in
     ap (λ (x : World). record { config = t.config; world = x }) world

@@ -11,8 +11,8 @@ use Rattle.turn_world.proofs.world.TurnWorld.push_finishes.Goals as goal
 pub loop-row-init : goal.loop-row-init
 loop-row-init c = with_none c.args.events.now.items
 
-pub unfinished_at-requires : goal.unfinished_at-requires
-unfinished_at-requires c =
+pub unfinished_proxy_at-requires : goal.unfinished_proxy_at-requires
+unfinished_proxy_at-requires c =
     let t = c.self.inside in
     let w = world_of t.rows.items t.moves t.judged_counts.items t.finished.items in
     let many : c.len-row-end.result ≡ length t.rows.items = search rules in

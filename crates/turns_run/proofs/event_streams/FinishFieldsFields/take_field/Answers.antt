@@ -6,9 +6,9 @@ use Rattle.turns_run.proofs.event_streams.FinishFieldsFields.take_field.Goals as
 pub returns-in-proxy : goal.returns-in-proxy
 returns-in-proxy c =
     let f = c.args.self.now in
-    let new = c.take_into.new.slot in
+    let new = c.take_into_slot.new.slot in
     let k = codes "proxy" in
-    rw c.in-proxy.is (if_some_weaker c.take_into.result (λ _ read. (
+    rw c.in-proxy.is (if_some_weaker c.take_into_slot.result (λ _ read. (
       read.0,
       read.1,
       λ ms held.
@@ -16,4 +16,4 @@ returns-in-proxy c =
             slot_put number_shape k read.0 f.proxy new ms read.2,
             omega (arith, more.0, more.1, more.2, held.1),
           ),
-    )) c.take_into.ensures)
+    )) c.take_into_slot.ensures)

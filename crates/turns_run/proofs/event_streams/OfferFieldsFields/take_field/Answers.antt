@@ -6,9 +6,9 @@ use Rattle.turns_run.proofs.event_streams.OfferFieldsFields.take_field.Goals as 
 pub returns-in-row : goal.returns-in-row
 returns-in-row c =
     let f = c.args.self.now in
-    let new = c.take_into.new.slot in
+    let new = c.take_into_slot.new.slot in
     let k = codes "row" in
-    rw c.in-row.is (if_some_weaker c.take_into.result (λ _ read. (
+    rw c.in-row.is (if_some_weaker c.take_into_slot.result (λ _ read. (
       read.0,
       read.1,
       λ ms held.
@@ -17,14 +17,14 @@ returns-in-row c =
             slot_other number_shape (codes "resolver") k f.resolver read.0 ms refl held.1,
             omega (arith, more.0, more.1, more.2, held.2),
           ),
-    )) c.take_into.ensures)
+    )) c.take_into_slot.ensures)
 
 pub returns-in-resolver : goal.returns-in-resolver
 returns-in-resolver c =
     let f = c.args.self.now in
-    let new = c.take_into-in-resolver.new.slot in
+    let new = c.take_into_slot-in-resolver.new.slot in
     let k = codes "resolver" in
-    rw c.in-resolver.is (if_some_weaker c.take_into-in-resolver.result (λ _ read. (
+    rw c.in-resolver.is (if_some_weaker c.take_into_slot-in-resolver.result (λ _ read. (
       read.0,
       read.1,
       λ ms held.
@@ -33,4 +33,4 @@ returns-in-resolver c =
             slot_put number_shape k read.0 f.resolver new ms read.2,
             omega (arith, more.0, more.1, more.2, held.2),
           ),
-    )) c.take_into-in-resolver.ensures)
+    )) c.take_into_slot-in-resolver.ensures)

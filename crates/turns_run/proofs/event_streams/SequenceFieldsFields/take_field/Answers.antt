@@ -7,9 +7,9 @@ use Rattle.turns_run.proofs.event_streams.SequenceFieldsFields.take_field.Goals 
 pub returns-in-proxy : goal.returns-in-proxy
 returns-in-proxy c =
     let f = c.args.self.now in
-    let new = c.take_into.new.slot in
+    let new = c.take_into_slot.new.slot in
     let k = codes "proxy" in
-    rw c.in-proxy.is (if_some_weaker c.take_into.result (λ _ read. (
+    rw c.in-proxy.is (if_some_weaker c.take_into_slot.result (λ _ read. (
       read.0,
       read.1,
       λ ms held.
@@ -18,14 +18,14 @@ returns-in-proxy c =
             slot_other batch_shape (codes "batch") k f.batch read.0 ms refl held.1,
             omega (arith, more.0, more.1, more.2, held.2),
           ),
-    )) c.take_into.ensures)
+    )) c.take_into_slot.ensures)
 
 pub returns-in-batch : goal.returns-in-batch
 returns-in-batch c =
     let f = c.args.self.now in
-    let new = c.take_into-in-batch.new.slot in
+    let new = c.take_into_slot-in-batch.new.slot in
     let k = codes "batch" in
-    rw c.in-batch.is (if_some_weaker c.take_into-in-batch.result (λ _ read. (
+    rw c.in-batch.is (if_some_weaker c.take_into_slot-in-batch.result (λ _ read. (
       read.0,
       read.1,
       λ ms held.
@@ -34,4 +34,4 @@ returns-in-batch c =
             slot_put batch_shape k read.0 f.batch new ms read.2,
             omega (arith, more.0, more.1, more.2, held.2),
           ),
-    )) c.take_into-in-batch.ensures)
+    )) c.take_into_slot-in-batch.ensures)

@@ -8,9 +8,9 @@ use Rattle.turns_run.proofs.turns_fields.TurnsFieldsFields.take_field.Goals as g
 pub returns-in-proxies : goal.returns-in-proxies
 returns-in-proxies g c =
     let f = c.args.self.now in
-    let new = c.take_into.new.slot in
+    let new = c.take_into_slot.new.slot in
     let k = codes "proxies" in
-    rw c.in-proxies.is (if_some_weaker c.take_into.result (λ _ read. (
+    rw c.in-proxies.is (if_some_weaker c.take_into_slot.result (λ _ read. (
       read.0,
       read.1,
       λ ms held.
@@ -25,14 +25,14 @@ returns-in-proxies g c =
             slot_other (list_shape bytes_shape) (codes "ask") k f.ask read.0 ms refl held.7,
             omega (arith, more.0, more.1, more.2, held.8),
           ),
-    )) c.take_into.ensures)
+    )) c.take_into_slot.ensures)
 
 pub returns-in-resolvers : goal.returns-in-resolvers
 returns-in-resolvers g c =
     let f = c.args.self.now in
-    let new = c.take_into-in-resolvers.new.slot in
+    let new = c.take_into_slot-in-resolvers.new.slot in
     let k = codes "resolvers" in
-    rw c.in-resolvers.is (if_some_weaker c.take_into-in-resolvers.result (λ _ read. (
+    rw c.in-resolvers.is (if_some_weaker c.take_into_slot-in-resolvers.result (λ _ read. (
       read.0,
       read.1,
       λ ms held.
@@ -47,14 +47,14 @@ returns-in-resolvers g c =
             slot_other (list_shape bytes_shape) (codes "ask") k f.ask read.0 ms refl held.7,
             omega (arith, more.0, more.1, more.2, held.8),
           ),
-    )) c.take_into-in-resolvers.ensures)
+    )) c.take_into_slot-in-resolvers.ensures)
 
 pub returns-in-window : goal.returns-in-window
 returns-in-window g c =
     let f = c.args.self.now in
-    let new = c.take_into-in-window.new.slot in
+    let new = c.take_into_slot-in-window.new.slot in
     let k = codes "window" in
-    rw c.in-window.is (if_some_weaker c.take_into-in-window.result (λ _ read. (
+    rw c.in-window.is (if_some_weaker c.take_into_slot-in-window.result (λ _ read. (
       read.0,
       read.1,
       λ ms held.
@@ -69,14 +69,14 @@ returns-in-window g c =
             slot_other (list_shape bytes_shape) (codes "ask") k f.ask read.0 ms refl held.7,
             omega (arith, more.0, more.1, more.2, held.8),
           ),
-    )) c.take_into-in-window.ensures)
+    )) c.take_into_slot-in-window.ensures)
 
 pub returns-in-step : goal.returns-in-step
 returns-in-step g c =
     let f = c.args.self.now in
-    let new = c.take_into-in-step.new.slot in
+    let new = c.take_into_slot-in-step.new.slot in
     let k = codes "step" in
-    rw c.in-step.is (if_some_weaker c.take_into-in-step.result (λ _ read. (
+    rw c.in-step.is (if_some_weaker c.take_into_slot-in-step.result (λ _ read. (
       read.0,
       read.1,
       λ ms held.
@@ -91,14 +91,14 @@ returns-in-step g c =
             slot_other (list_shape bytes_shape) (codes "ask") k f.ask read.0 ms refl held.7,
             omega (arith, more.0, more.1, more.2, held.8),
           ),
-    )) c.take_into-in-step.ensures)
+    )) c.take_into_slot-in-step.ensures)
 
 pub returns-in-ask : goal.returns-in-ask
 returns-in-ask g c =
     let f = c.args.self.now in
-    let new = c.take_into-in-ask.new.slot in
+    let new = c.take_into_slot-in-ask.new.slot in
     let k = codes "ask" in
-    rw c.in-ask.is (if_some_weaker c.take_into-in-ask.result (λ _ read. (
+    rw c.in-ask.is (if_some_weaker c.take_into_slot-in-ask.result (λ _ read. (
       read.0,
       read.1,
       λ ms held.
@@ -113,7 +113,7 @@ returns-in-ask g c =
             slot_put (list_shape bytes_shape) k read.0 f.ask new ms read.2,
             omega (arith, more.0, more.1, more.2, held.8),
           ),
-    )) c.take_into-in-ask.ensures)
+    )) c.take_into_slot-in-ask.ensures)
 
 pub returns-in-events : goal.returns-in-events
 returns-in-events g c =

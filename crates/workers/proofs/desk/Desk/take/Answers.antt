@@ -5,11 +5,11 @@ use Rattle.workers.proofs.DeskLemmas.{keeps_trans}
 use Rattle.workers.proofs.desk.Desk.take.Goals as goal
 
 pub returns-clause-keeps : goal.returns-clause-keeps
-returns-clause-keeps g c = keeps_trans _ _ _ c.hold-told.ensures.keeps c.offer_due.ensures.keeps
+returns-clause-keeps g c = keeps_trans _ _ _ c.hold_back-told.ensures.keeps c.offer_due.ensures.keeps
 
 pub returns-clause-served : goal.returns-clause-served
 returns-clause-served g c =
-    λ own sound. c.offer_due.ensures.keeps.served sound c.args.pending.plain.row (inr (c.hold-told.ensures.held (c.offer_due.ensures.keeps.failed sound)))
+    λ own sound. c.offer_due.ensures.keeps.served sound c.args.pending.plain.row (inr (c.hold_back-told.ensures.held (c.offer_due.ensures.keeps.failed sound)))
 
 pub returns-clause-late : goal.returns-clause-late
 returns-clause-late g c =

@@ -6,8 +6,8 @@ use Rattle.workers.proofs.proxy_inboxes.ProxyInboxes.end.Goals as goal
 
 pub returns-clause-senders : goal.returns-clause-senders
 returns-clause-senders g c =
-    subst (λ (p : ℕ). AreSenders p g.N.Naming.cells.config.resolvers c.into_ended.result.items) (c.await_own.ensures ∙ c.self.view_is) c.into_ended.ensures.senders
+    subst (λ (p : ℕ). AreSenders p g.N.Naming.cells.config.resolvers c.into_ended.result.items) (c.await_own_ends.ensures ∙ c.self.view_is) c.into_ended.ensures.senders
 
 pub returns-clause-ended : goal.returns-clause-ended
 returns-clause-ended g c =
-    subst (λ (p : ℕ). AreEndedSenders p c.into_ended.result.items) (c.await_own.ensures ∙ c.self.view_is) c.into_ended.ensures.ended
+    subst (λ (p : ℕ). AreEndedSenders p c.into_ended.result.items) (c.await_own_ends.ensures ∙ c.self.view_is) c.into_ended.ensures.ended

@@ -2,7 +2,7 @@
 use Rattle.std.proofs.Common.{◌≡◌, refl, ap, sym, ◌∙◌, subst, ℕ, ◌+◌, ◌-◌, true, false, arith}
 use Rattle.inboxes.specs.Sending.{is_end}
 use Rattle.inboxes.specs.MessageViews.{close_view, end_view, request_view}
-use Rattle.inboxes.specs.declared.views.Kind.TheVariants as kinds
+use Rattle.inboxes.specs.declared.views.MessageKind.TheVariants as kinds
 use Rattle.inboxes.specs.declared.views.MessageView.{MessageView}
 use Rattle.inboxes.proofs.Sent.{no_end, one_end}
 use Rattle.workers.specs.Desks.{Serves}

@@ -1,5 +1,0 @@
-use Rattle.endings.proofs.Distances.{lacks_unfinished, lacks_others}
-use Rattle.endings.proofs.laws.distances.lacked_law.Goals as goal
-
-pub returns : goal.returns
-returns c = record { unfinished = lacks_unfinished; finished = lacks_others }

@@ -1,5 +1,0 @@
-use Rattle.endings.proofs.Lag.{any_rows_apart}
-use Rattle.endings.proofs.laws.distances.lag_law.Goals as goal
-
-pub returns : goal.returns
-returns c = any_rows_apart

@@ -1,5 +1,0 @@
-use Rattle.endings.proofs.Fair.{fair_finish}
-use Rattle.endings.proofs.laws.fairness.fair_law.Goals as goal
-
-pub returns : goal.returns
-returns c = fair_finish

@@ -1,4 +1,0 @@
-pub mod GivenValue
-pub mod KnownWords
-pub mod OfferedModes
-pub mod Endings

@@ -1,7 +1,0 @@
-//! Command lines that are written out. No code: the contract shows what their definitions say.
-ghost use Rattle.mode_choice.specs.KnownLines.{KnownLinesAreThese};
-
-/// Which command lines of one word fold, carry out events, commit in threads, or are rejected.
-pub fn known_lines_scenarios()
-    ensures { KnownLinesAreThese }
-{}

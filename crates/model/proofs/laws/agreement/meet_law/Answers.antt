@@ -1,6 +1,0 @@
-use Rattle.model.proofs.Agreement.Cells.{columns_cut_down}
-use Rattle.model.proofs.Agreement.Holders.{finished_meet}
-use Rattle.model.proofs.laws.agreement.meet_law.Goals as goal
-
-pub returns : goal.returns
-returns c = record { same = columns_cut_down; finished = finished_meet }

@@ -1,5 +1,0 @@
-use Rattle.model.proofs.History.Rows.{split_at_row}
-use Rattle.model.proofs.laws.history.split_law.Goals as goal
-
-pub returns : goal.returns
-returns c = split_at_row

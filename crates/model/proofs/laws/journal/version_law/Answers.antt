@@ -1,5 +1,0 @@
-use Rattle.model.proofs.Agreement.Holders.{rows_up_to_version}
-use Rattle.model.proofs.laws.journal.version_law.Goals as goal
-
-pub returns : goal.returns
-returns c = rows_up_to_version

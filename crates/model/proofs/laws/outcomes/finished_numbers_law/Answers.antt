@@ -1,5 +1,0 @@
-use Rattle.model.proofs.History.Rows.{finished_row, finished_version_is}
-use Rattle.model.proofs.laws.outcomes.finished_numbers_law.Goals as goal
-
-pub returns : goal.returns
-returns c = record { row = finished_row; version = finished_version_is }

@@ -1,5 +1,0 @@
-use Rattle.model.proofs.Owners.MadeMoves.{moves_within, moves_rise}
-use Rattle.model.proofs.laws.owners.moves_law.Goals as goal
-
-pub returns : goal.returns
-returns c = record { within = moves_within; rise = moves_rise }

@@ -1,5 +1,0 @@
-use Rattle.system_keys.proofs.KeyLaws.{overlap_iff}
-use Rattle.model.proofs.laws.owners.overlap_law.Goals as goal
-
-pub returns : goal.returns
-returns c = overlap_iff

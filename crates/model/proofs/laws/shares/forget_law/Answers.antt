@@ -1,5 +1,0 @@
-use Rattle.model.proofs.Shares.Forgetting.{verdict_of_newer, committed_of_newer}
-use Rattle.model.proofs.laws.shares.forget_law.Goals as goal
-
-pub returns : goal.returns
-returns c = record { verdict = verdict_of_newer; committed = committed_of_newer }

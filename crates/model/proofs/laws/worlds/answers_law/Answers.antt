@@ -1,5 +1,0 @@
-use Rattle.model.proofs.Worlds.Runs.{completed_told, judged_told, again_told}
-use Rattle.model.proofs.laws.worlds.answers_law.Goals as goal
-
-pub returns : goal.returns
-returns c = record { completed = completed_told; judged = judged_told; again = again_told }

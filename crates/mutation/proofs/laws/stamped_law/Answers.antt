@@ -1,5 +1,0 @@
-use Rattle.mutation.proofs.LimitLaws.{limits_kept}
-use Rattle.mutation.proofs.laws.stamped_law.Goals as goal
-
-pub returns : goal.returns
-returns c = limits_kept

@@ -1,7 +1,0 @@
--- The verdicts so far, and those of the lists that are left, are the column.
-use Rattle.std.proofs.Common.{◌≡◌, ◌++◌, drop}
-use Rattle.proxy_state.specs.Learning.{column_by}
-use Rattle.proxy_state.proofs.columns.column_by.Given as goal
-
-abbrev pub invariant-loop-list : goal.invariant-loop-list
-invariant-loop-list l = l.column.items ++ column_by l.resolver (drop l.list-index l.lists) l.rest ≡ column_by l.resolver l.lists l.verdicts

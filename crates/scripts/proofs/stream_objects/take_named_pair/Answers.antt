@@ -1,9 +1,0 @@
-use Rattle.std.proofs.Common.{arith}
-use Rattle.scripts.specs.Shapes.{pair_shape}
-use Rattle.scripts.proofs.StreamObjectLemmas.{takes_one}
-use Rattle.scripts.proofs.stream_objects.take_named_pair.Goals as goal
-
-pub returns-then-end_object : goal.returns-then-end_object
-returns-then-end_object c =
-    takes_one pair_shape c.args.depth c.args.reader.now c.begin_object.new.reader c.next_key.new.self c.take_pair.new.reader c.end_object.new.reader
-    c.in_ok-name.name.now c.in_ok-pair.pair (grind arith) (omega arith) (grind arith) c.in_ok-pair.ensures (grind arith)

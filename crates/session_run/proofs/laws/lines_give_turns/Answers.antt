@@ -1,5 +1,0 @@
-use Rattle.session_run.proofs.TurnsScriptLemmas.{script_answered}
-use Rattle.session_run.proofs.laws.lines_give_turns.Goals as goal
-
-pub returns : goal.returns
-returns c = script_answered

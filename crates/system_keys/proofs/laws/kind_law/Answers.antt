@@ -1,5 +1,0 @@
-use Rattle.system_keys.proofs.KindLaws.{kind_both_ways}
-use Rattle.system_keys.proofs.laws.kind_law.Goals as goal
-
-pub returns : goal.returns
-returns c = kind_both_ways

@@ -1,5 +1,0 @@
-use Rattle.pages.proofs.Prints.{prints_both}
-use Rattle.turns_run.proofs.pieces.push_word.Goals as goal
-
-pub returns : goal.returns
-returns g c = prints_both c.push.ensures c.push-2.ensures
