@@ -32,15 +32,6 @@ without_none keys rows none = ap (λ (hidden : List Key). entries_without hidden
     all [] = refl
     all (row ∷ rows) = ap (λ (rest : Entries). row ∷ rest) (all rows)
 
--- a look-up of a key that is not among these, and of one that is
-pub left_value : (keys : List Key) (rows left : Entries) (key : Key) → is_listed keys key ≡ false → entries_without keys rows ≡ left → entry_value rows key ≡ entry_value left key
-left_value keys rows left key out are =
-    ap (λ (t : Bool). if t then None else entry_value rows key) (sym out) ∙ sym (value_without keys rows key) ∙ ap (λ (entries : Entries). entry_value entries key) are
-
-pub hidden_value : (keys : List Key) (rows left : Entries) (key : Key) → is_listed keys key ≡ true → entries_without keys rows ≡ left → None ≡ entry_value left key
-hidden_value keys rows left key among are =
-    ap (λ (t : Bool). if t then None else entry_value rows key) (sym among) ∙ sym (value_without keys rows key) ∙ ap (λ (entries : Entries). entry_value entries key) are
-
 -- ---- the entries at some keys are removed
 
 -- the keys that are left are still to be removed
@@ -101,17 +92,3 @@ over_kept puts old new put_kept old_kept over = λ row there. by row.0 (ap is_so
     by key there false put = value_kept old key (λ row has. old_kept row (Contains-from_Has old row has)) (either_there (entry_value puts key) (entry_value old key) there put)
 
 -- ---- the metadata after a batch
-
-left_at : (put was now : Option (List ℕ)) (cleared removed : Bool) → now ≡ option_or put was → removed ≡ (not (is_some put) && cleared) → (if removed then None else now) ≡ option_or put (if cleared then None else was)
-left_at (Some value) was now cleared removed is hides = ap (λ (t : Bool). if t then None else now) hides ∙ is
-left_at None was now true removed is hides = ap (λ (t : Bool). if t then None else now) hides
-left_at None was now false removed is hides = ap (λ (t : Bool). if t then None else now) hides ∙ is
-
--- what is put over the entries, without those that are removed, are the entries after both
-pub left_after : (cleared removed : List Key) (puts old now after : Entries) → IsInOrder now → IsInOrder after → IsPutOver puts old now → ((key : Key) → is_listed removed key ≡ (not (has_entry puts key) && is_listed cleared key))
-    → IsOverwritten cleared puts old after → entries_without removed now ≡ after
-left_after cleared removed puts old now after s t over hides is =
-    same_entries (entries_without removed now) after (filter_in_order (λ (row : Entry). not (is_listed removed row.0)) now s) t (λ key.
-    value_without removed now key
-    ∙ left_at (entry_value puts key) (entry_value old key) (entry_value now key) (is_listed cleared key) (is_listed removed key) (over key) (hides key)
-    ∙ sym (is key))

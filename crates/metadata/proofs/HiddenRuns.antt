@@ -14,7 +14,7 @@ use Rattle.std.specs.Option.{is_some}
 use Rattle.system_keys.specs.Keys.{Key, Range, is_key_below, is_key_up_to}
 use Rattle.system_keys.specs.Families.{key_servers_family, is_in}
 use Rattle.system_keys.proofs.KeyOrder.{below_trans, up_to_trans, up_to_below, not_below_back, not_below_itself, up_to_is}
-use Rattle.model.specs.Metadata.{Entry, Entries, IsInOrder, entry_value, is_key_servers, behind_prefix, is_entry_inside}
+use Rattle.model.specs.Metadata.{Entry, Entries, IsInOrder, entry_value, is_key_servers, behind_prefix}
 use Rattle.model.proofs.Members.{Has, Has-from_Contains, Contains-from_Has, Has-map, Has-from_filter, Has-split}
 use Rattle.model.proofs.Metadata.Entries.{filter_in_order}
 use Rattle.metadata.specs.MapEntries.{entry_from, entries_of, is_serving_up_to, is_serving_inside}

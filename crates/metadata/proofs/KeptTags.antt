@@ -1,12 +1,12 @@
 -- The tags that are looked up are those of the rows that serve a key, or that a range holds.
-use Rattle.std.proofs.Common.{◌≡◌, refl, sym, ap, ◌∙◌, subst, ℕ, zero, suc, ◌-◌, ◌<◌, arith, length, take, drop, length-drop, List, [], ◌∷◌, ◌++◌, append-nil, flat_map, Bool, true, false, cond, if◌then◌else◌, ◌&&◌, Option, Some, None, option_map, option_to_list, filter, inl, inr}
+use Rattle.std.proofs.Common.{◌≡◌, refl, sym, ap, ◌∙◌, subst, ℕ, zero, suc, ◌-◌, ◌<◌, arith, length, take, drop, length-drop, List, [], ◌∷◌, ◌++◌, append-nil, flat_map, Bool, true, false, cond, Option, Some, None, option_map, option_to_list, filter, inl, inr}
 use Rattle.std.specs.Global.{Vec}
 use Rattle.std.proofs.Math.Seq.{take-length}
 use Rattle.system_keys.specs.declared.tag.Tag.{Tag}
 use Rattle.system_keys.specs.Keys.{Key}
 use Rattle.system_keys.specs.Families.{key_servers_family, is_in}
 use Rattle.model.specs.Metadata.{Entry, Entries, IsInOrder, entry_value, key_servers_entries, is_key_servers, behind_prefix, serving_entry, entry_tags, server_tags, sorted_tags, tags, tags_of_key}
-use Rattle.model.proofs.Members.{Has, Has-from_filter, Has-filter, Has-map, Has-append_left, Has-append_right}
+use Rattle.model.proofs.Members.{Has, Has-from_filter, Has-filter, Has-map, Has-append_left}
 use Rattle.model.specs.declared.routing.Route.{Route}
 use Rattle.std.specs.Prelude.{slice_get}
 use Rattle.metadata.proofs.RouteEntries.{same_route}
@@ -102,22 +102,6 @@ pub row_at : (row : Entry) (rest : Entries) (before : ℕ) (total : Option Entry
 row_at row rest before total own first is =
     let here : slice_get (key_servers_entries (row ∷ rest)) 0 ≡ Some (behind_prefix row) = rw own refl in
     sym here ∙ ap (slice_get (key_servers_entries (row ∷ rest))) (sym first) ∙ is
-
--- one that is no keyServers row is passed
-pub row_passed : (row : Entry) (rest : Entries) (before : ℕ) (total : Option Entry) → is_key_servers row ≡ false → slice_get (key_servers_entries (row ∷ rest)) before ≡ total → slice_get (key_servers_entries rest) before ≡ total
-row_passed row rest before total out is =
-    let here : slice_get (key_servers_entries (row ∷ rest)) before ≡ slice_get (key_servers_entries rest) before = rw out refl in
-    sym here ∙ is
-
-next_place : (row : Entry) (rows : Entries) (place : ℕ) → 0 < place → slice_get rows (place - 1) ≡ slice_get (row ∷ rows) place
-next_place row rows zero more = absurd (omega arith)
-next_place row rows (suc n) more =
-    let less : suc n - 1 ≡ n = omega arith in ap (slice_get rows) less
-
-pub row_later : (row : Entry) (rest : Entries) (before : ℕ) (total : Option Entry) → is_key_servers row ≡ true → 0 < before → slice_get (key_servers_entries (row ∷ rest)) before ≡ total → slice_get (key_servers_entries rest) (before - 1) ≡ total
-row_later row rest before total own more is =
-    let here : slice_get (key_servers_entries (row ∷ rest)) before ≡ slice_get (behind_prefix row ∷ key_servers_entries rest) before = rw own refl in
-    next_place (behind_prefix row) (key_servers_entries rest) before more ∙ sym here ∙ is
 
 -- the route that is added is the own route of the entry
 pub route_added : (all : Entries) (key : Key) (value : List ℕ) (found : List Tag) (route : Route) → is_in key_servers_family key ≡ true → found ≡ tags_by (entry_value all) value

@@ -107,55 +107,6 @@ cleared_or_none true None = refl
 cleared_or_none true (Some value) = refl
 cleared_or_none false was = refl
 
--- what a row of a journal leaves is what its own changes put, over what they do not clear
-pub row_overwrites : (row : JournalRow) (removed : List Key) (puts old new : Entries) → IsInOrder old → IsInOrder new
-    → puts ≡ fold (after_state (is_locked old)) [] row.states → removed ≡ cleared_keys old (changes_of (is_locked old) row.states)
-    → IsOverwritten removed puts old new → new ≡ after_journal_row old row
-row_overwrites row removed puts old new s t puts_is removed_is over =
-    same_entries new (after_journal_row old row) t (after_row_in_order old row s) (λ key.
-    over key
-    ∙ ap (λ (rows : Entries). option_or (entry_value rows key) (if is_listed removed key then None else entry_value old key)) (puts_is ∙ states_let_pass row.states (is_locked old) [])
-    ∙ ap (λ (keys : List Key). option_or (entry_value (after_changes [] changes) key) (if is_listed keys key then None else entry_value old key)) removed_is
-    ∙ ap (λ (u : Bool). option_or (entry_value (after_changes [] changes) key) (if u then None else entry_value old key)) (listed_cleared old changes key)
-    ∙ ap (option_or (entry_value (after_changes [] changes) key)) (cleared_or_none (are_clearing changes key) (entry_value old key))
-    ∙ sym (over_changes changes key false [] old old refl)
-    ∙ ap (λ (rows : Entries). entry_value rows key) (sym (states_let_pass row.states (is_locked old) old)))
-  where
-    changes : List Change
-    changes = changes_of (is_locked old) row.states
-
--- the same of what the calls for a row were given and returned
-pub record AreApplying (row : JournalRow) (old held puts new : Entries) (removed : List Key) : Type 0 where
-  pub locked : Bool
-  pub states : List StateTxn
-  pub made : Entries
-  pub folded : Entries
-  pub held_is : held ≡ old
-  pub locked_is : locked ≡ is_locked old
-  pub states_is : states ≡ row.states
-  pub made_is : made ≡ []
-  pub folded_is : folded ≡ fold (after_state locked) made states
-  pub puts_is : puts ≡ folded
-  pub removed_is : removed ≡ cleared_keys held (changes_of locked states)
-
-pub row_applied : (row : JournalRow) (old held puts new : Entries) (removed : List Key) → AreApplying row old held puts new removed → IsInOrder held → IsInOrder new → IsOverwritten removed puts held new → new ≡ after_journal_row old row
-row_applied row old held puts new removed calls s t over =
-    row_overwrites row removed puts held new s t
-    (calls.puts_is
-    ∙ calls.folded_is
-    ∙ ap (λ (l : Bool). fold (after_state l) calls.made calls.states) lock
-    ∙ ap (λ (rows : Entries). fold (after_state (is_locked held)) rows calls.states) calls.made_is
-    ∙ ap (fold (after_state (is_locked held)) []) calls.states_is)
-    (calls.removed_is ∙ ap (λ (l : Bool). cleared_keys held (changes_of l calls.states)) lock ∙ ap (λ (states : List StateTxn). cleared_keys held (changes_of (is_locked held) states)) calls.states_is)
-    over
-    ∙ ap (λ (rows : Entries). after_journal_row rows row) calls.held_is
-  where
-    lock : calls.locked ≡ is_locked held
-    lock = calls.locked_is ∙ ap is_locked (sym calls.held_is)
-
-pub row_kept_in_order : (row : JournalRow) (old new : Entries) → IsInOrder old × AreKept old → new ≡ after_journal_row old row → IsInOrder new × AreKept new
-row_kept_in_order row old new fine is = subst (λ (rows : Entries). IsInOrder rows × AreKept rows) (sym is) (after_row_in_order old row fine.0, kept_after_row old row fine.1)
-
 -- a row that makes a single change
 pub one_applied : (row : JournalRow) (old new : Entries) (locked : Bool) (states : List StateTxn) (change : Change) → locked ≡ is_locked old → states ≡ row.states
     → changes_of locked states ≡ change ∷ [] → new ≡ after_change old change → new ≡ after_journal_row old row

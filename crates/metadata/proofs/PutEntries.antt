@@ -27,9 +27,6 @@ pub record AreDisplacing (entries puts displaced rest : Entries) : Type 0 where
   pub same : (key : Key) → has_entry displaced key ≡ true → entry_value displaced key ≡ entry_value entries key
   pub all : (key : Key) → has_entry puts key ≡ true → has_entry entries key ≡ true → (has_entry displaced key || has_entry rest key) ≡ true
 
-pub displacing_first : (entries puts none rest : Entries) → none ≡ [] → rest ≡ puts → AreDisplacing entries puts none rest
-displacing_first entries puts none rest is are = rw (is, are) (record { same = λ key has. absurd (cc); all = λ key put there. put })
-
 -- a copy of the entry at a key
 pub copied_entry : (entries before after : Entries) (key : Key) (value : List ℕ) → entry_value entries key ≡ Some value → after ≡ insert_entry key_cmp before key value
     → (at : Key) → entry_value after at ≡ (if is_same_key at key then option_or (entry_value entries key) (entry_value before at) else entry_value before at)
@@ -64,9 +61,6 @@ displacing_next entries puts before after row rest is so_far =
 nothing_more : (b : Bool) → (b || false) ≡ true → b ≡ true
 nothing_more true h = refl
 nothing_more false h = h
-
-pub displacing_last : (entries puts displaced : Entries) → AreDisplacing entries puts displaced [] → AreDisplaced entries puts displaced
-displacing_last entries puts displaced done = record { same = done.same; all = λ key put there. nothing_more (has_entry displaced key) (done.all key put there) }
 
 -- ---- the missing keys and the entries that are displaced
 

@@ -2,7 +2,7 @@
 use Rattle.std.proofs.Common.{◌≡◌, refl, sym, ap, ◌∙◌, subst, ℕ, ◌+◌, ◌<◌, ◌≤◌, length, drop, List, [], ◌∷◌, ◌++◌, Bool, true, false, cond, if◌then◌else◌, ◌||◌, ◌&&◌, Option, Some, None, Result, Ok, Err, IsOk, OnOk, OnErr, ◌⊎◌, inl, inr, arith}
 use Rattle.std.specs.Prelude.{bytes_eq, option_map, option_to_list}
 use Rattle.std.specs.Global.{Vec}
-use Rattle.std.specs.Option.{is_some, option_flatten, option_or}
+use Rattle.std.specs.Option.{is_some, option_flatten}
 use Rattle.std.specs.Result.{result_ok}
 use Rattle.std.specs.Cmp.Lexicographic.{bytes_decides}
 use Rattle.system_keys.specs.declared.tag.Tag.{Tag}

@@ -58,8 +58,3 @@ next_tag xs d i before now all within is so_far =
     let split : drop i xs ≡ get_or xs i d ∷ drop (i + 1) xs = rw (add-one, drop-cons xs i d) in
     ap (λ (tags : List Tag). added tags (drop (i + 1) xs)) is ∙ ap (added before) (sym split) ∙ so_far
 
--- a loop over a list, which looks for an element that passes
-pub any_next : {X : Type 0} (f : X → Bool) (xs : List X) (d : X) (i : ℕ) (total : Bool) → i < length xs → list_any f (drop i xs) ≡ total → (f (get_or xs i d) || list_any f (drop (i + 1) xs)) ≡ total
-any_next {X = X} f xs d i total within is =
-    let split : drop i xs ≡ get_or xs i d ∷ drop (i + 1) xs = rw (add-one, drop-cons xs i d) in
-    ap (list_any f) (sym split) ∙ is

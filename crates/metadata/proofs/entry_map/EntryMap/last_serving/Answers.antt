@@ -23,3 +23,12 @@ returns-clause-found c =
     let own : is_in key_servers_family c.in-Some.found.now.items ≡ true = search rules in
     last_own c.self.inside.values.entries c.next_back.new.self (c.in-Some.found.now, c.in-Some.row.now) c.in_ok-greatest.greatest c.args.key.now c.in_ok-greatest.ensures (sym (c.range.ensures.between tt) ∙ c.in-Some.ensures.steps) own
     ∙ ap (λ (entries : Entries). last_or None (filter (is_serving_up_to c.args.key.now) entries)) c.self.view_is
+
+pub returns-in_default-clause-order : goal.returns-in_default-clause-order
+returns-in_default-clause-order c = subst IsInOrder c.self.view_is c.self.invariant
+
+pub returns-then-not-starts_with-clause-order : goal.returns-then-not-starts_with-clause-order
+returns-then-not-starts_with-clause-order c = subst IsInOrder c.self.view_is c.self.invariant
+
+pub returns-clause-order : goal.returns-clause-order
+returns-clause-order c = subst IsInOrder c.self.view_is c.self.invariant

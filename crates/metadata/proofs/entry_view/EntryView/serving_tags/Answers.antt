@@ -1,5 +1,5 @@
 -- The tags of the row that serves the key are gathered by what it names.
-use Rattle.std.proofs.Common.{◌≡◌, ◌∙◌, ap, sym, subst, Some, None}
+use Rattle.std.proofs.Common.{◌∙◌, ap, sym, subst, Some, None}
 use Rattle.std.specs.Option.{option_map}
 use Rattle.model.specs.Metadata.{serving_entry, key_servers_entries}
 use Rattle.metadata.specs.ServerTables.{GiveTags}
