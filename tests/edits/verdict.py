@@ -12,6 +12,8 @@ OF_CALLEES = re.compile(r"(; )?(it calls|it passes|a call of) .*?, which (is|are
 WRONG = re.compile(r"(?m)^(?:\./)?(\S+):\d+:\d+: error: (?:`([^`]*)`: )?(.*)$")
 # A proof that names what the edit took away: such an error says little of the contract.
 NAME_IS_GONE = re.compile(r"has no field|is not in scope|has no `|was not admitted")
+# A function that the edit put beyond the prover: such an edit says nothing of the contract.
+IS_NOT_COVERED = re.compile(r"the borrow checker does not cover this function|its part in its proof is not made yet")
 # A long error of this kind goes on in the next line.
 GOES_ON = re.compile(rf"\n +(?={NAME_IS_GONE.pattern})")
 # What rests on a declaration that fell is not checked: no fault of its own.
@@ -40,13 +42,16 @@ class Said:
                 self.functions[name] = reason
 
     def own_reason(self, name, why):
-        """Why the function fell by itself: a goal, or only a name that is gone; nothing if only its callees fell."""
+        """Why the function fell by itself: a goal, or what is none; nothing if only its callees fell."""
         of_answers = self.answers.get(f"proofs/{name.replace('::', '/')}", [])
         by_goal = [f"`{it}`: {words}" for it, words in of_answers if not NAME_IS_GONE.search(words)]
         goal = why.partition(".antt; ")[2] or ("" if of_answers and why.startswith("expected answers") else why)
+        if IS_NOT_COVERED.search(goal):
+            return Reason(False, f"the prover does not cover it: {goal}"[:120])
         if goal or by_goal:
             return Reason(True, (goal or by_goal[0])[:120])
-        return Reason(False, f"`{of_answers[0][0]}`: {of_answers[0][1]}"[:120]) if of_answers else None
+        gone = "its proof names what is gone"
+        return Reason(False, f"{gone}: `{of_answers[0][0]}`: {of_answers[0][1]}"[:150]) if of_answers else None
 
     def reason(self, name):
         """Why this function or lemma fell by itself, if it did."""
@@ -54,7 +59,8 @@ class Said:
             return self.functions[name]
         if name in self.lemmas:
             by_goal = [it for it in self.lemmas[name] if not NAME_IS_GONE.search(it)]
-            return Reason(bool(by_goal), (by_goal or self.lemmas[name])[0][:120])
+            words = by_goal[0] if by_goal else f"its proof names what is gone: {self.lemmas[name][0]}"
+            return Reason(bool(by_goal), words[:150])
         return None
 
     def all_names(self):
@@ -93,7 +99,7 @@ def answer(edit, name, said, is_alone):
     if reason and reason.is_goal:
         return Answer("refused", f"by {name}: {reason.words}")
     if reason:
-        return Answer("not refused", f"{name} falls only since its proof names what is gone: {reason.words}")
+        return Answer("not refused", f"{name} falls by no goal, as {reason.words}")
     # what rests on a lemma that fell is not checked, and not named: such an edit is tried again without the others
     if is_alone or edit.function and name not in said.fallen:
         what = ", ".join(sorted(said.all_names()))[:300] or "nothing"
