@@ -1,17 +1,18 @@
 //! The lines that are printed of metadata at a version.
 
-ghost use Rattle.std.specs.Prelude.{◌≡◌, ◌++◌, OnOk, string_bytes};
+ghost use Rattle.std.specs.Prelude.{◌≡◌, ◌++◌, OnOk, flat_map, map, string_bytes};
+ghost use Rattle.model.specs.Metadata.{key_servers_entries, route_of};
 ghost use Rattle.pages.specs.Printing.{Prints};
-ghost use Rattle.scripts.specs.Lines.{asked_line, asked_text};
+ghost use Rattle.scripts.specs.Lines.{asked_line, asked_text, route_line};
 ghost use Rattle.cluster_lines.specs.MetadataLines.{metadata_text, proxy_line};
 
 use metadata::Metadata;
 use model::{ProxyNumber, Version};
 use pages::Page;
-use scripts::{print_asked_key, print_routing, take_page};
+use scripts::{print_asked_key, print_route, print_routing_head, take_page};
 use std::alloc::Global;
 use std::fmt::Write;
-use system_keys::{Bytes, OutOfMemory};
+use system_keys::{Bytes, METADATA_VERSION_KEY, OutOfMemory};
 
 /// Prints the metadata of a proxy at a version: the number of the proxy, its routing, and the tags
 /// of the asked keys. Fails only with `OutOfMemory`.
@@ -43,11 +44,29 @@ pub fn print_metadata(
     ensures { OnOk result (string_bytes text.new
         ≡ string_bytes text.old ++ metadata_text version metadata.now keys.now) }
 {
-    let routing = metadata.routing(version)?;
     let mut page = take_page(alloc, text);
-    print_routing(&mut page, &routing);
+    let metadata_version = metadata.row(METADATA_VERSION_KEY);
+    print_routing_head(&mut page, version, metadata.is_locked(), metadata_version);
+    print_routes(alloc, &mut page, metadata)?;
     print_asked_keys(&mut page, metadata, keys)?;
     *text = page.into_text()?;
+    Ok(())
+}
+
+/// Prints a line for each keyServers entry, in the order of keys. Fails only with `OutOfMemory`.
+fn print_routes<P: Page>(
+    alloc: Global,
+    page: &mut P,
+    metadata: &Metadata,
+) -> Result<(), OutOfMemory>
+    ensures { OnOk result (Prints P.has_printed page.old page.new
+        (flat_map route_line
+        (map (route_of metadata.now) (key_servers_entries metadata.now)))) }
+{
+    let mut routes = metadata.routes();
+    while let Some((begin, tags)) = routes.next() {
+        print_route(page, begin, tags.list(alloc)?.as_slice());
+    }
     Ok(())
 }
 

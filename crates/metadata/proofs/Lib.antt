@@ -20,6 +20,7 @@ pub mod PrivateCopies
 pub mod PutEntries
 pub mod RangeEntries
 pub mod RouteEntries
+pub mod RouteWalks
 pub mod ServerTables
 pub mod ServingEntries
 pub mod SortedTags

@@ -57,4 +57,3 @@ pub next_tag : (xs : List Tag) (d : Tag) (i : ℕ) (before now all : List Tag) �
 next_tag xs d i before now all within is so_far =
     let split : drop i xs ≡ get_or xs i d ∷ drop (i + 1) xs = rw (add-one, drop-cons xs i d) in
     ap (λ (tags : List Tag). added tags (drop (i + 1) xs)) is ∙ ap (added before) (sym split) ∙ so_far
-

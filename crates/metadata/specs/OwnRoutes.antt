@@ -2,6 +2,8 @@
 use Rattle.std.specs.Prelude.{List, map}
 use Rattle.model.specs.declared.routing.Route.{Route}
 use Rattle.model.specs.Metadata.{Entry, Entries, key_servers_entries, entry_tags, sorted_tags}
+use Rattle.metadata.specs.CachedTags.{names_by}
+use Rattle.metadata.specs.ServerTables.{ServerTags, tags_named}
 
 -- the route of a keyServers entry, with the tags of its own value
 abbrev pub own_route : Entries → Entry → Route
@@ -10,3 +12,11 @@ own_route all row = record { key = row.0; tags = sorted_tags (entry_tags all row
 -- the own routes of the keyServers entries among some of the entries
 abbrev pub own_routes : Entries → Entries → List Route
 own_routes all rows = map (own_route all) (key_servers_entries rows)
+
+-- the route of a keyServers entry, with the tags that a table of servers gives it
+abbrev pub route_by : ServerTags → Entry → Route
+route_by servers row = record { key = row.0; tags = tags_named servers (names_by row.1) }
+
+-- the routes of the keyServers entries among some of the entries, by a table of servers
+abbrev pub routes_by : ServerTags → Entries → List Route
+routes_by servers rows = map (route_by servers) (key_servers_entries rows)

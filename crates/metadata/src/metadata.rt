@@ -2,13 +2,13 @@
 //! applied, and the lock, tags and routing are read.
 
 ghost use Rattle.std.specs.Prelude.{◌≡◌, [], false, None, IsOk, IfOk, OnOk, OnErr};
-ghost use Rattle.std.specs.Prelude.{option_map, fold, slice_get};
+ghost use Rattle.std.specs.Prelude.{option_map, fold, map, slice_get};
 ghost use Rattle.std.specs.List.{list_any};
 ghost use Rattle.system_keys.specs.declared.change.Change.TheVariants.{Set, Clear};
 ghost use Rattle.system_keys.specs.Keys.{Key};
 ghost use Rattle.system_keys.specs.Families.{is_kept_key};
 ghost use Rattle.model.specs.Metadata.{IsInOrder, AreKept, entry_value, is_locked, after_change};
-ghost use Rattle.model.specs.Metadata.{is_applied, after_journal_row, key_servers_entries};
+ghost use Rattle.model.specs.Metadata.{is_applied, after_journal_row, key_servers_entries, route_of};
 ghost use Rattle.model.specs.Metadata.{Entries, routing, tags, tags_of_key};
 ghost use Rattle.model.specs.PrivateCopies.{private_copy};
 ghost use Rattle.metadata.specs.CachedTags.{may_tag_some};
@@ -24,6 +24,7 @@ use crate::kept_entries::KeptEntries;
 use crate::key_runs::KeyRuns;
 use crate::key_set::KeySet;
 use crate::private_copies::find_private_copy;
+use crate::route_walk::RouteWalk;
 use crate::routes::routes;
 use crate::row_tags::RowTags;
 use crate::server_table::ServerTable;
@@ -394,6 +395,14 @@ impl Metadata {
             metadata_version: self.entries.metadata_version()?,
             routes: routes(self.entries.map(), &self.servers)?,
         })
+    }
+
+    /// A walk over the keyServers entries, in the order of keys: the key that each begins at, and its
+    /// tags (this project's profile). Does not allocate.
+    pub fn routes(&self) -> RouteWalk<'_>
+        ensures { result ≡ map (route_of self.now) (key_servers_entries self.now) }
+    {
+        RouteWalk::new(self.entries.map(), &self.servers)
     }
 
     /// The tags of the keyServers entry at this place, in the order of keys and counted from

@@ -53,11 +53,16 @@ metadata_version_line value = line (codes "metadata_version " ++ quoted_or_none 
 abbrev pub route_line : Route → List ℕ
 route_line route = line (codes "route " ++ quoted route.key ++ spaced (tags_text route.tags))
 
+-- what stands before the routes of a routing: its version, its lock and its metadata version
+abbrev pub routing_head : ℕ → Bool → Option (List ℕ) → List ℕ
+routing_head version locked value =
+    version_line version ++ locked_line locked ++ metadata_version_line value
+
 -- the routing: its version, its lock, its metadata version, and a line for each of its routes
 abbrev pub routing_text : Routing → List ℕ
 routing_text routing =
-    version_line routing.version ++ locked_line routing.locked
-    ++ metadata_version_line routing.metadata_version ++ flat_map route_line routing.routes
+    routing_head routing.version routing.locked routing.metadata_version
+    ++ flat_map route_line routing.routes
 
 -- a key that is asked, and its tags
 abbrev pub tags_line : Key → List Tag → List ℕ

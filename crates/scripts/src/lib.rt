@@ -40,7 +40,7 @@ pub use devices::{Failed, ReadFault, Reader, Sink, Source, Writer, read_all, wri
 pub use edges::written_edges;
 pub use keys::copy_keys;
 pub use line_pieces::{print_refused, push_numbered, push_quoted, push_refused, push_word};
-pub use lines::{print_asked_key, print_routing};
+pub use lines::{print_asked_key, print_route, print_routing_head};
 pub use names::{outcome_name, verdict_name};
 pub use output::{Output, output_of_fault};
 pub use raw_change::RawChange;

@@ -1,8 +1,10 @@
-use Rattle.pages.proofs.Prints.{prints_both}
+use Rattle.std.proofs.Common.{◌∙◌, ap, sym}
+use Rattle.pages.proofs.Prints.{prints_both, prints_as}
+use Rattle.scripts.specs.Lines.{routing_head}
 use Rattle.cluster_lines.proofs.metadata_lines.print_metadata.Goals as goal
 
 pub returns : goal.returns
 returns c =
-    let routing = rw c.in_ok-routing.ensures at c.print_routing.ensures in
-    let printed = prints_both routing c.in_ok-print_asked_keys.ensures in
+    let head = prints_as c.print_routing_head.ensures (λ i. routing_head c.args.version (c.is_locked.ensures i) (c.row-metadata_version.ensures.value i)) in
+    let printed = prints_both (prints_both head c.in_ok-print_routes.ensures) c.in_ok-print_asked_keys.ensures in
     c.in_ok-text.ensures _ _ (printed.more _ _ c.take_page-page.ensures)
