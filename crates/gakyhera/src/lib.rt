@@ -31,6 +31,7 @@ pub extern "C" fn gakyhera_fold(
     ensures text { (status : ℕ) × (result ≡ pos status)
         × Places (fold_text script.now) status out.old out.new made.old made.new }
     ensures long { result ≡ pos 3 → input_limit < length script.now }
+    ensures refused { input_limit < length script.now → result ≡ pos 3 }
 {
     i32::from(place(fold_text(alloc, script), out, made))
 }
@@ -47,6 +48,7 @@ pub extern "C" fn gakyhera_turns(
     ensures text { (status : ℕ) × (result ≡ pos status)
         × Places (turns_text script.now) status out.old out.new made.old made.new }
     ensures long { result ≡ pos 3 → input_limit < length script.now }
+    ensures refused { input_limit < length script.now → result ≡ pos 3 }
 {
     i32::from(place(turns_text(alloc, script), out, made))
 }

@@ -23,6 +23,7 @@ pub fn place(found: Result<ScriptText, TextFault>, out: &mut [u8], made: &mut us
     ensures places { (answer : OutputView) → IfOk found (IsTextOf answer)
         → Places answer result out.old out.new made.old made.new }
     ensures long { result ≡ 3 → IsErrOf found TextFault.TooLong }
+    ensures refused { IsErrOf found TextFault.TooLong → result ≡ 3 }
 {
     match found {
         Ok(text) => {

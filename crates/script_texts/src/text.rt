@@ -39,6 +39,7 @@ pub fn fold_text(alloc: Global, script: &[u8]) -> Result<ScriptText, TextFault>
     ensures text { IfOk result (IsTextOf (fold_text script.now)) }
     ensures answered { IfOk result (λ made. IsWholeText made.status) }
     ensures long { IsErrOf result TextFault.TooLong → input_limit < length script.now }
+    ensures refused { input_limit < length script.now → IsErrOf result TextFault.TooLong }
 {
     if script.len() > INPUT_LIMIT {
         return Err(TextFault::TooLong);
@@ -54,6 +55,7 @@ pub fn turns_text(alloc: Global, script: &[u8]) -> Result<ScriptText, TextFault>
     ensures text { IfOk result (IsTextOf (turns_text script.now)) }
     ensures answered { IfOk result (λ made. IsWholeText made.status) }
     ensures long { IsErrOf result TextFault.TooLong → input_limit < length script.now }
+    ensures refused { input_limit < length script.now → IsErrOf result TextFault.TooLong }
 {
     if script.len() > INPUT_LIMIT {
         return Err(TextFault::TooLong);
