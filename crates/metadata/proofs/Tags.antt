@@ -1,6 +1,5 @@
 -- Tags that are added one list after another.
-use Rattle.std.proofs.Common.{◌≡◌, refl, sym, ap, ◌∙◌, ℕ, List, [], ◌∷◌, ◌++◌, fold, flat_map, get_or, drop, add-one, ◌<◌, ◌+◌, length, append_assoc, append-nil, Bool, ◌||◌}
-use Rattle.std.specs.List.{list_any}
+use Rattle.std.proofs.Common.{◌≡◌, refl, sym, ap, ◌∙◌, ℕ, List, [], ◌∷◌, ◌++◌, fold, flat_map, get_or, drop, add-one, ◌<◌, ◌+◌, length, append_assoc, append-nil}
 use Rattle.std.specs.BTreeSet.{insert_key}
 use Rattle.std.proofs.lemmas.List.Sums.{fold-append}
 use Rattle.std.proofs.Math.Seq.{drop-cons}
@@ -57,4 +56,3 @@ pub next_tag : (xs : List Tag) (d : Tag) (i : ℕ) (before now all : List Tag) �
 next_tag xs d i before now all within is so_far =
     let split : drop i xs ≡ get_or xs i d ∷ drop (i + 1) xs = rw (add-one, drop-cons xs i d) in
     ap (λ (tags : List Tag). added tags (drop (i + 1) xs)) is ∙ ap (added before) (sym split) ∙ so_far
-
