@@ -1,5 +1,5 @@
 -- Entries without those at some keys: what each key has, how they are removed, and when they are the metadata after a batch.
-use Rattle.std.proofs.Common.{◌≡◌, refl, sym, ap, ◌∙◌, subst, ℕ, List, [], ◌∷◌, Bool, true, false, cond, if◌then◌else◌, not, ◌&&◌, ◌||◌, filter, Option, Some, None, inl, inr}
+use Rattle.std.proofs.Common.{◌≡◌, refl, sym, ap, ◌∙◌, subst, ℕ, List, [], ◌∷◌, Bool, true, false, cond, if◌then◌else◌, not, ◌||◌, filter, Option, Some, None, inl, inr}
 use Rattle.std.specs.Global.{Vec}
 use Rattle.std.specs.Option.{is_some, option_or}
 use Rattle.std.specs.BTreeMap.{is_at}
@@ -10,7 +10,7 @@ use Rattle.model.specs.Metadata.{Entry, Entries, IsInOrder, AreKept, entry_value
 use Rattle.model.proofs.Members.{Has, Has-from_Contains, Contains-from_Has, Has-from_filter}
 use Rattle.model.proofs.Metadata.Entries.{filter_in_order}
 use Rattle.metadata.specs.MapEntries.{bytes_of_keys}
-use Rattle.metadata.specs.Overwrites.{is_same_key, is_listed, has_entry, entries_without, IsOverwritten, IsPutOver}
+use Rattle.metadata.specs.Overwrites.{is_same_key, is_listed, has_entry, entries_without, IsPutOver}
 use Rattle.metadata.proofs.KeyValues.{key_cmp, same_key, same_itself, same_entries}
 use Rattle.metadata.proofs.KeptInOrder.{AreKeptInOrder}
 

@@ -1,5 +1,5 @@
 -- The tags that are looked up are those of the rows that serve a key, or that a range holds.
-use Rattle.std.proofs.Common.{◌≡◌, refl, sym, ap, ◌∙◌, subst, ℕ, zero, suc, ◌-◌, ◌<◌, arith, length, take, drop, length-drop, List, [], ◌∷◌, ◌++◌, append-nil, flat_map, Bool, true, false, cond, Option, Some, None, option_map, option_to_list, filter, inl, inr}
+use Rattle.std.proofs.Common.{◌≡◌, refl, sym, ap, ◌∙◌, subst, ℕ, ◌-◌, length, take, drop, length-drop, List, [], ◌∷◌, ◌++◌, append-nil, flat_map, Bool, true, false, cond, Option, Some, None, option_map, option_to_list, filter, inl, inr}
 use Rattle.std.specs.Global.{Vec}
 use Rattle.std.proofs.Math.Seq.{take-length}
 use Rattle.system_keys.specs.declared.tag.Tag.{Tag}

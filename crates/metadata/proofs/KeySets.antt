@@ -108,7 +108,7 @@ added_last keys front k old before after one so_far = λ other.
     ∙ ap (λ (t : Bool). t || is_listed before other) (sym (last_listed front k other))
     ∙ so_far other
 
--- in the end no key is left
+-- a list without elements is empty
 pub none_left : {X : Type 0} (xs : List X) → length xs ≡ 0 → xs ≡ []
 none_left [] none = refl
 none_left (x ∷ xs) none = absurd (cc)

@@ -56,11 +56,11 @@ pub rest_in_order : {V : Type 0} (row : Key × V) (rows : List (Key × V)) → A
 unfolding IsStrictlySortedBy
 rest_in_order row rows s = s.1
 
-behind_trans : {V : Type 0} (a b : Key) (rows : List (Key × V)) → key_cmp a b ≡ Less → Behind b rows → Behind a rows
+pub behind_trans : {V : Type 0} (a b : Key) (rows : List (Key × V)) → key_cmp a b ≡ Less → Behind b rows → Behind a rows
 behind_trans a b [] h all = tt
 behind_trans a b (row ∷ rows) h all = (nat_list_cmp_total.trans a b row.0 h all.0, behind_trans a b rows h all.1)
 
-turned : (a b : Key) → key_cmp a b ≡ Greater → key_cmp b a ≡ Less
+pub turned : (a b : Key) → key_cmp a b ≡ Greater → key_cmp b a ≡ Less
 turned a b h = nat_list_cmp_total.antisymm b a ∙ ap ordering_reverse h
 
 -- ---- entries with the same value at each key

@@ -26,4 +26,5 @@ pub mod ServingEntries
 pub mod SortedTags
 pub mod StagedChanges
 pub mod Tags
+pub mod TakenBack
 pub mod WrittenEntries

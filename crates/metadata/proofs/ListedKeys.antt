@@ -1,5 +1,5 @@
 -- A loop over keys that gives each of them the same value, and which keys are listed.
-use Rattle.std.proofs.Common.{◌≡◌, refl, sym, ap, ◌∙◌, ℕ, ◌+◌, ◌<◌, ◌≤◌, length, drop, get_or, add-one, List, [], ◌∷◌, Bool, true, false, cond, if◌then◌else◌, not, ◌&&◌, ◌||◌, filter, Option, Some, None, option_map}
+use Rattle.std.proofs.Common.{◌≡◌, refl, sym, ap, ◌∙◌, ℕ, ◌+◌, ◌<◌, ◌≤◌, length, drop, get_or, add-one, List, [], ◌∷◌, Bool, true, false, cond, if◌then◌else◌, ◌&&◌, ◌||◌, filter, Option, Some}
 use Rattle.std.specs.Global.{Vec}
 use Rattle.std.specs.Option.{is_some}
 use Rattle.std.specs.Map.{keys_of}
@@ -8,7 +8,7 @@ use Rattle.std.proofs.lemmas.List.{drop_all}
 use Rattle.system_keys.specs.Keys.{Key}
 use Rattle.model.specs.Metadata.{Entry, Entries, entry_value}
 use Rattle.metadata.specs.MapEntries.{bytes_of_keys}
-use Rattle.metadata.specs.Overwrites.{is_same_key, is_listed, has_entry, missing_keys}
+use Rattle.metadata.specs.Overwrites.{is_same_key, is_listed, has_entry}
 use Rattle.metadata.proofs.KeyValues.{same_key}
 
 -- the keys that are left, of those that count, are still to get the value
@@ -76,52 +76,3 @@ listed_keys (row ∷ rows) key = by (is_same_key key row.0) (listed_keys rows ke
     by : (s : Bool) → is_listed (keys_of rows) key ≡ has_entry rows key → (s || is_listed (keys_of rows) key) ≡ is_some (cond s (Some row.1) (entry_value rows key))
     by true later = refl
     by false later = later
-
-pub listed_missing : (rows puts : Entries) (key : Key) → is_listed (missing_keys rows puts) key ≡ (not (has_entry rows key) && has_entry puts key)
-listed_missing rows puts key = keys_that (λ (k : Key). not (has_entry rows k)) (keys_of puts) ∙ ap (λ (t : Bool). not (has_entry rows key) && t) (listed_keys puts key)
-  where
-    keys_that : (p : Key → Bool) (keys : List Key) → is_listed (filter p keys) key ≡ (p key && is_listed keys key)
-    keys_that p [] = none (p key)
-      where
-        none : (t : Bool) → false ≡ (t && false)
-        none true = refl
-        none false = refl
-    keys_that p (k ∷ keys) = by (is_same_key key k) refl (p k) refl (p key) refl (keys_that p keys)
-      where
-        two : (t u : Bool) → p k ≡ t → p key ≡ u → is_same_key key k ≡ true → t ≡ u
-        two t u h e same = sym h ∙ ap p (sym (same_key key k same)) ∙ e
-
-        by : (s : Bool) → is_same_key key k ≡ s → (t : Bool) → p k ≡ t → (u : Bool) → p key ≡ u → is_listed (filter p keys) key ≡ (u && is_listed keys key)
-            → is_listed (cond t (k ∷ filter p keys) (filter p keys)) key ≡ (u && (s || is_listed keys key))
-        by true same true h true e later = rw same refl
-        by true same true h false e later = let two_ways : true ≡ false = two true false h e same in absurd (cc)
-        by true same false h true e later = let two_ways : false ≡ true = two false true h e same in absurd (cc)
-        by true same false h false e later = later
-        by false same true h u e later = rw same later
-        by false same false h u e later = later
-
--- ---- a removal that some keys are kept from
-
-pub removed_unless : (kept old new : Entries) (key : Key) → has_entry kept key ≡ false → ((other : Key) → entry_value new other ≡ (if is_same_key other key then None else entry_value old other))
-    → (other : Key) → entry_value new other ≡ (if not (has_entry kept other) && is_same_key other key then None else entry_value old other)
-removed_unless kept old new key out removed other = removed other ∙ by (is_same_key other key) refl (has_entry kept other) refl
-  where
-    by : (s : Bool) → is_same_key other key ≡ s → (h : Bool) → has_entry kept other ≡ h → (if s then None else entry_value old other) ≡ (if not h && s then None else entry_value old other)
-    by true same true e = let two : true ≡ false = sym e ∙ ap (has_entry kept) (same_key other key same) ∙ out in absurd (cc)
-    by true same false e = refl
-    by false same true e = refl
-    by false same false e = refl
-
-pub kept_there : (kept old : Entries) (key : Key) → has_entry kept key ≡ true → (other : Key) → entry_value old other ≡ (if not (has_entry kept other) && is_same_key other key then None else entry_value old other)
-kept_there kept old key there other = by (is_same_key other key) refl (has_entry kept other) refl
-  where
-    by : (s : Bool) → is_same_key other key ≡ s → (h : Bool) → has_entry kept other ≡ h → entry_value old other ≡ (if not h && s then None else entry_value old other)
-    by true same true e = refl
-    by true same false e = let two : false ≡ true = sym e ∙ ap (has_entry kept) (same_key other key same) ∙ there in absurd (cc)
-    by false same true e = refl
-    by false same false e = refl
-
--- whether a value is there does not depend on how it is seen
-pub seen_there : {X : Type 0} (f : X → List ℕ) (found : Option X) (value : Option (List ℕ)) (t : Bool) → option_map f found ≡ value → is_some found ≡ t → is_some value ≡ t
-seen_there f None value t is e = ap is_some (sym is) ∙ e
-seen_there f (Some x) value t is e = ap is_some (sym is) ∙ e

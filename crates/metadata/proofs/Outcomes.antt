@@ -1,5 +1,5 @@
 -- A fact of a call that succeeded gives another one.
-use Rattle.std.proofs.Common.{◌≡◌, sym, subst, Bor, Option, Some, None, Result, Ok, Err, OnOk, OnErr}
+use Rattle.std.proofs.Common.{◌≡◌, sym, subst, Bor, Option, Some, None, Result, Ok, Err, OnOk}
 use Rattle.std.specs.Option.{option_copied}
 use Rattle.std.specs.Prelude.{IfSome}
 

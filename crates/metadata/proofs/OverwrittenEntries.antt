@@ -10,20 +10,20 @@ use Rattle.system_keys.specs.Keys.{Key, Range, holds}
 use Rattle.system_keys.specs.Families.{is_kept_key}
 use Rattle.model.specs.declared.journal.StateTxn.{StateTxn}
 use Rattle.model.specs.declared.journal.JournalRow.{JournalRow}
-use Rattle.model.specs.Metadata.{Entry, Entries, IsInOrder, entry_value, AreKept, after_change, after_changes, is_locked, after_state, after_journal_row}
-use Rattle.model.proofs.Metadata.Entries.{states_let_pass, after_row_in_order, filter_in_order}
-use Rattle.model.proofs.Metadata.Changes.{changed_cleared, changed_left, kept_after_row}
-use Rattle.metadata.specs.Overwrites.{is_same_key, is_listed, has_entry, IsOverwritten, changes_of, keys_cleared, cleared_keys}
+use Rattle.model.specs.Metadata.{Entry, Entries, IsInOrder, entry_value, after_change, after_changes, is_locked, after_state, after_journal_row}
+use Rattle.model.proofs.Metadata.Entries.{states_let_pass, filter_in_order}
+use Rattle.model.proofs.Metadata.Changes.{changed_cleared, changed_left}
+use Rattle.metadata.specs.Overwrites.{is_same_key, is_listed, has_entry, changes_of, keys_cleared, cleared_keys}
 use Rattle.metadata.proofs.KeyValues.{key_cmp, same_entries, value_put}
 use Rattle.metadata.proofs.ListedKeys.{filtered_keys}
 
 -- ---- a range is cleared
 
-pub range_removed : (range : Range) (keys : List Key) (kept old new : Entries) → IsInOrder old → IsInOrder new → keys ≡ keys_of (filter (λ (row : Entry). holds range row.0) old) → kept ≡ []
-    → ((key : Key) → entry_value new key ≡ (if not (has_entry kept key) && is_listed keys key then None else entry_value old key))
+pub range_removed : (range : Range) (keys : List Key) (old new : Entries) → IsInOrder old → IsInOrder new → keys ≡ keys_of (filter (λ (row : Entry). holds range row.0) old)
+    → ((key : Key) → entry_value new key ≡ (if is_listed keys key then None else entry_value old key))
     → new ≡ filter (λ (row : Entry). not (holds range row.0)) old
-range_removed range keys kept old new s t is none removed =
-    same_entries new (after_change old (Clear range)) t (filter_in_order (λ (row : Entry). not (holds range row.0)) old s) (λ key. removed key ∙ rw none (by key (is_listed keys key) refl (holds range key) refl (entry_value old key) refl))
+range_removed range keys old new s t is removed =
+    same_entries new (after_change old (Clear range)) t (filter_in_order (λ (row : Entry). not (holds range row.0)) old s) (λ key. removed key ∙ by key (is_listed keys key) refl (holds range key) refl (entry_value old key) refl)
   where
     by : (key : Key) (l : Bool) → is_listed keys key ≡ l → (h : Bool) → holds range key ≡ h → (was : Option (List ℕ)) → entry_value old key ≡ was → (if l then None else entry_value old key) ≡ entry_value (after_change old (Clear range)) key
     by key true e true inside was h = sym (changed_cleared old range key inside)

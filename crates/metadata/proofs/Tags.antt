@@ -1,6 +1,5 @@
 -- Tags that are added one list after another.
-use Rattle.std.proofs.Common.{◌≡◌, refl, sym, ap, ◌∙◌, ℕ, List, [], ◌∷◌, ◌++◌, fold, flat_map, get_or, drop, add-one, ◌<◌, ◌+◌, length, append_assoc, append-nil, Bool, ◌||◌}
-use Rattle.std.specs.List.{list_any}
+use Rattle.std.proofs.Common.{◌≡◌, refl, sym, ap, ◌∙◌, ℕ, List, [], ◌∷◌, ◌++◌, fold, flat_map, get_or, drop, add-one, ◌<◌, ◌+◌, length, append_assoc, append-nil}
 use Rattle.std.specs.BTreeSet.{insert_key}
 use Rattle.std.proofs.lemmas.List.Sums.{fold-append}
 use Rattle.std.proofs.Math.Seq.{drop-cons}

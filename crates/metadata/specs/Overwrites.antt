@@ -1,10 +1,11 @@
 -- Entries that are written over others: what one row of a journal removes, and what it puts.
-use Rattle.std.specs.Prelude.{◌≡◌, List, [], ◌∷◌, map, Bool, true, false, None, if◌then◌else◌, filter, not}
+use Rattle.std.specs.Prelude.{◌≡◌, ℕ, List, [], ◌∷◌, map, Bool, true, Option, None, Some}
+use Rattle.std.specs.Prelude.{if◌then◌else◌, filter, not}
 use Rattle.std.specs.Borrow.{Bor}
 use Rattle.std.specs.Option.{is_some, option_or}
 use Rattle.std.specs.List.{flat_map, list_any}
 use Rattle.std.specs.Map.{keys_of}
-use Rattle.std.specs.BTreeMap.{is_at}
+use Rattle.std.specs.BTreeMap.{is_at, insert_entry}
 use Rattle.std.specs.Ordering.{nat_cmp}
 use Rattle.std.specs.Cmp.Lexicographic.{slice_cmp}
 use Rattle.system_keys.specs.declared.change.Change.{Change}
@@ -24,10 +25,6 @@ is_listed keys key = list_any (is_same_key key) keys
 -- the entries have one at this key
 abbrev pub has_entry : Entries → Key → Bool
 has_entry entries key = is_some (entry_value entries key)
-
--- the keys of other entries that these entries lack, in order
-abbrev pub missing_keys : (entries puts : Entries) → List Key
-missing_keys entries puts = filter (λ (key : Key). not (has_entry entries key)) (keys_of puts)
 
 -- The entries after the entries at some keys are removed, and then others are put: what each key
 -- has.
@@ -67,6 +64,10 @@ lent_ranges ranges = map (λ (range : Bor Range). range.now) ranges
 abbrev pub is_held : List Range → Key → Bool
 is_held ranges key = list_any (λ (range : Range). holds range key) ranges
 
+-- the entries without those at some keys
+abbrev pub entries_without : (keys : List Key) → Entries → Entries
+entries_without keys entries = filter (λ (entry : Entry). not (is_listed keys entry.0)) entries
+
 -- ---- entries that are put over others, and taken back
 
 -- the entries after others are put over them: what each key has
@@ -74,33 +75,35 @@ abbrev pub IsPutOver : (puts old new : Entries) → Type 0
 IsPutOver puts old new =
     (key : Key) → entry_value new key ≡ option_or (entry_value puts key) (entry_value old key)
 
--- What takes back entries that were put: keys that had none, and the entries displaced at the
--- others.
-pub record TakesBack (missing : List Key) (displaced old new : Entries) : Type 0 where
-  pub missing_before : (key : Key) → is_listed missing key ≡ true → entry_value old key ≡ None
-  pub displaced_before :
-      (key : Key) → has_entry displaced key ≡ true → entry_value displaced key ≡ entry_value old key
-  pub displaced_there : (key : Key) → has_entry displaced key ≡ true → has_entry new key ≡ true
-  pub others :
-      (key : Key) → is_listed missing key ≡ false → has_entry displaced key ≡ false
-      → entry_value new key ≡ entry_value old key
+-- a key, and the value that stood there before another one was put, or None
+abbrev pub Displaced : Type 0
+Displaced = Key × Option (List ℕ)
 
--- these take back entries that were put over those of a metadata
-pub record MayTakeBack (missing : List Key) (displaced new : Entries) : Type 0 where
+-- the entries after the value that stood at a key is put back
+abbrev pub value_back : Entries → Key → Option (List ℕ) → Entries
+value_back entries key None = entries_without (key ∷ []) entries
+value_back entries key (Some value) = insert_entry (slice_cmp nat_cmp) entries key value
+
+-- the entries after what was displaced is put back, the last one first
+abbrev pub taken_back : List Displaced → Entries → Entries
+taken_back [] entries = entries
+taken_back (first ∷ later) entries = value_back (taken_back later entries) first.0 first.1
+
+-- each value finds an entry at its key when it is put back
+abbrev pub FindEntries : List Displaced → Entries → Type 0
+FindEntries [] entries = Unit {0}
+FindEntries (first ∷ later) entries =
+    (is_some first.1 ≡ true → has_entry (taken_back later entries) first.0 ≡ true)
+    × FindEntries later entries
+
+-- what was displaced gives the entries before those that were put
+pub record TakesBack (displaced : List Displaced) (old new : Entries) : Type 0 where
+  pub find : FindEntries displaced new
+  pub gives : taken_back displaced new ≡ old
+
+-- this takes back entries that were put over those of a metadata
+pub record MayTakeBack (displaced : List Displaced) (new : Entries) : Type 0 where
   pub old : Entries
-  pub takes : TakesBack missing displaced old new
+  pub takes : TakesBack displaced old new
   pub order : IsInOrder old
   pub kept : AreKept old
-
--- each entry of the metadata at a key of `puts` is among those displaced, and no others are
-pub record AreDisplaced (entries puts displaced : Entries) : Type 0 where
-  pub same :
-      (key : Key) → has_entry displaced key ≡ true
-      → entry_value displaced key ≡ entry_value entries key
-  pub all :
-      (key : Key) → has_entry puts key ≡ true → has_entry entries key ≡ true
-      → has_entry displaced key ≡ true
-
--- the entries without those at some keys
-abbrev pub entries_without : (keys : List Key) → Entries → Entries
-entries_without keys entries = filter (λ (entry : Entry). not (is_listed keys entry.0)) entries

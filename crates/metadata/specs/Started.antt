@@ -4,7 +4,7 @@ use Rattle.system_keys.specs.Keys.{Key}
 use Rattle.model.specs.declared.journal.JournalRow.{JournalRow}
 use Rattle.model.specs.Metadata.{Entries, IsInOrder, AreKept, entry_value}
 use Rattle.model.specs.Metadata.{after_journal_row}
-use Rattle.metadata.specs.Overwrites.{TakesBack, entries_without}
+use Rattle.metadata.specs.Overwrites.{Displaced, TakesBack, entries_without}
 use Rattle.metadata.specs.CachedTags.{may_tag_some}
 use Rattle.metadata.specs.ServerTables.{ServersTakeBack}
 
@@ -12,13 +12,12 @@ use Rattle.metadata.specs.ServerTables.{ServersTakeBack}
 abbrev pub after_rows : Entries → List JournalRow → Entries
 after_rows entries rows = fold after_journal_row entries rows
 
--- What contracts see of rows that were started: the keys whose entries are still to be removed; the
--- keys at which an entry was put and there was none; the entries that were displaced by others; the
--- keys of the serverTag entries that were put; and the lock before the last row.
+-- What contracts see of rows that were started: the keys whose entries are still to be removed; what
+-- stood where entries were put; the keys of the serverTag entries that were put; and the lock before
+-- the last row.
 pub record Started : Type 0 where
   pub removed : List Key
-  pub missing : List Key
-  pub displaced : Entries
+  pub displaced : List Displaced
   pub servers : List Key
   pub locked : Bool
 
@@ -27,7 +26,7 @@ pub record Started : Type 0 where
 -- these gives a server a tag, so the tags of the rows are already those after.
 pub record IsStarted (started : Started) (before after now : Entries) : Type 0 where
   pub left : entries_without started.removed now ≡ after
-  pub takes : TakesBack started.missing started.displaced before now
+  pub takes : TakesBack started.displaced before now
   pub order : IsInOrder before
   pub kept : AreKept before
   pub servers : ServersTakeBack started.servers (entry_value before) (entry_value now)

@@ -1,9 +1,10 @@
 //! The entries that the metadata keeps, in the order of their keys.
 
-ghost use Rattle.std.specs.Prelude.{◌≡◌, ◌++◌, ◌&&◌, [], true, false, None, Some, IfOk, OnOk, OnErr};
+ghost use Rattle.std.specs.Prelude.{◌≡◌, ◌<◌, ◌++◌, ◌∷◌, ◌&&◌, [], true, false, None, IfOk, OnOk, OnErr};
 ghost use Rattle.std.specs.Prelude.{option_map, filter, not, if◌then◌else◌, slice_get};
 ghost use Rattle.std.specs.List.{last_or};
-ghost use Rattle.std.specs.Option.{option_or};
+ghost use Rattle.std.specs.Option.{is_some};
+ghost use Rattle.std.specs.Vec.{vec_len, vec_capacity};
 ghost use Rattle.std.specs.Ordering.{nat_cmp};
 ghost use Rattle.std.specs.BTreeMap.{insert_entry};
 ghost use Rattle.std.specs.Cmp.Lexicographic.{slice_cmp};
@@ -13,8 +14,8 @@ ghost use Rattle.system_keys.specs.Families.{key_servers_family, is_in};
 ghost use Rattle.model.specs.Metadata.{Entries, IsInOrder, entry_value, key_servers_entries};
 ghost use Rattle.metadata.specs.MapEntries.{entries_of, bytes_of_keys, lent_entry};
 ghost use Rattle.metadata.specs.MapEntries.{is_serving_up_to, is_serving_inside};
-ghost use Rattle.metadata.specs.Overwrites.{is_same_key, is_listed, has_entry, missing_keys};
-ghost use Rattle.metadata.specs.Overwrites.{IsPutOver, TakesBack, AreDisplaced};
+ghost use Rattle.metadata.specs.Overwrites.{is_same_key, is_listed, has_entry, value_back};
+ghost use Rattle.metadata.specs.Overwrites.{IsPutOver, TakesBack};
 ghost use Rattle.metadata.specs.Overwrites.{entries_without, is_held, lent_ranges};
 ghost use Rattle.metadata.specs.CachedTags.{may_tag, may_tag_some};
 ghost use Rattle.metadata.specs.HiddenRuns.{IsHiddenRun, AreHiddenRuns, is_serving_before};
@@ -119,16 +120,30 @@ impl EntryMap {
         Ok(())
     }
 
-    /// Puts the row at the key, and reads its value if it is that of a keyServers entry; its servers
-    /// are looked for in the table. Fails only with `OutOfMemory`; the map is then unchanged.
-    fn put_row(&mut self, key: Vec<u8>, row: Row, servers: &ServerTable) -> Result<(), OutOfMemory>
+    /// Puts the row at the key, with its value read if it is that of a keyServers entry; its servers
+    /// are looked for in the table. What stood there is added to what was displaced before. Fails
+    /// only with `OutOfMemory`; the map is then unchanged.
+    fn put_row(
+        &mut self,
+        key: Vec<u8>,
+        row: Row,
+        servers: &ServerTable,
+        displaced: &mut Vec<Displaced>,
+    ) -> Result<(), OutOfMemory>
         ensures ok { OnOk result
             (self.new ≡ insert_entry (slice_cmp nat_cmp) self.old key.items row) }
+        ensures displaced { OnOk result (displaced.new.items
+            ≡ displaced.old.items ++ (key.items, entry_value self.old key.items) ∷ []) }
+        ensures was_in_order { IsInOrder self.old }
         ensures order { IsInOrder self.new }
         ensures err { OnErr result (self.new ≡ self.old) }
+        ensures none { OnErr result (displaced.new.items ≡ displaced.old.items) }
     {
         let row = self.row_to_put(&key, row, servers)?;
-        self.values.insert(key, row)?;
+        displaced.reserve(1)?;
+        let copy = Vec::from_slice(self.alloc, key.as_slice())?;
+        let old_row = self.values.insert(key, row)?;
+        add_displaced(displaced, copy, old_row);
         Ok(())
     }
 
@@ -153,7 +168,7 @@ impl EntryMap {
     {
         let mut keys = Vec::new(self.alloc);
         self.list_keys_inside(range, &mut keys)?;
-        self.remove_listed(&keys, &EntryMap::new(self.alloc));
+        self.remove_listed(&keys);
         Ok(())
     }
 
@@ -214,26 +229,14 @@ impl EntryMap {
         Ok(keys)
     }
 
-    /// Removes the entries at the keys, except for the keys of the other map. Does not allocate.
-    fn remove_listed(&mut self, keys: &[Vec<u8>], kept: &EntryMap)
+    /// Removes the entries at the keys. Does not allocate.
+    fn remove_listed(&mut self, keys: &[Vec<u8>])
         ensures values { (key : Key) → entry_value self.new key
-            ≡ (if not (has_entry kept.now key) && is_listed (bytes_of_keys keys.now) key
-            then None else entry_value self.old key) }
+            ≡ (if is_listed (bytes_of_keys keys.now) key then None else entry_value self.old key) }
         ensures order { IsInOrder self.old → IsInOrder self.new }
     {
-        for key in keys {
-            self.remove_unless_kept(key.as_slice(), kept);
-        }
-    }
-
-    fn remove_unless_kept(&mut self, key: &[u8], kept: &EntryMap)
-        ensures values { (other : Key) → entry_value self.new other
-            ≡ (if not (has_entry kept.now other) && is_same_key other key.now
-            then None else entry_value self.old other) }
-        ensures order { IsInOrder self.old → IsInOrder self.new }
-    {
-        if kept.get(key).is_none() {
-            self.remove_key(key);
+        for listed in keys {
+            self.remove_key(listed.as_slice());
         }
     }
 
@@ -275,6 +278,7 @@ impl EntryMap {
     fn remove_key(&mut self, key: &[u8])
         ensures values { (other : Key) → entry_value self.new other
             ≡ (if is_same_key other key.now then None else entry_value self.old other) }
+        ensures was_in_order { IsInOrder self.old }
         ensures order { IsInOrder self.new }
     {
         self.values.remove(key);
@@ -282,82 +286,67 @@ impl EntryMap {
 
     /// Puts all entries of the other map, and returns what takes them back. The servers of keyServers
     /// entries are looked for in the table. Fails only with `OutOfMemory`; the map is then unchanged.
-    ///
-    /// What takes the entries back is made first. It also takes back those that were put before an
-    /// allocation fails.
     pub(crate) fn put_all(
         &mut self,
         puts: EntryMap,
         servers: &ServerTable,
-    ) -> Result<Undo, OutOfMemory>
+    ) -> Result<Vec<Displaced>, OutOfMemory>
         ensures ok { OnOk result (IsPutOver puts self.old self.new) }
-        ensures undo { IfOk result (λ undo. TakesBack undo.0 undo.1 self.old self.new) }
+        ensures takes { IfOk result (λ displaced. TakesBack displaced.items self.old self.new) }
         ensures order { IsInOrder self.new }
         ensures err { OnErr result (self.new ≡ self.old) }
     {
-        let undo = self.undo_of_puts(&puts)?;
-        match self.put_each(puts, servers) {
-            Ok(()) => Ok(undo),
+        let mut displaced = Vec::new(self.alloc);
+        match self.put_each(puts, servers, &mut displaced) {
+            Ok(()) => Ok(displaced),
             Err(OutOfMemory) => {
-                self.take_back(undo);
+                self.take_back(displaced);
                 Err(OutOfMemory)
             }
         }
     }
 
-    /// The keys of the other map that this one lacks, and the entries at its other keys. Fails only
-    /// with `OutOfMemory`.
-    fn undo_of_puts(&self, puts: &EntryMap) -> Result<Undo, OutOfMemory>
-        ensures missing { IfOk result (λ undo. undo.0 ≡ missing_keys self.now puts.now) }
-        ensures displaced { IfOk result (λ undo. AreDisplaced self.now puts.now undo.1) }
-        ensures order { IsInOrder self.now }
-    {
-        let mut missing = Vec::new(self.alloc);
-        let mut displaced = EntryMap::new(self.alloc);
-        for (key, _) in puts.iter() {
-            match self.get(key.as_slice()) {
-                Some(value) => displaced.put_copy(key.as_slice(), value)?,
-                None => missing.push(Vec::from_slice(self.alloc, key.as_slice())?)?,
-            }
-        }
-        Ok(Undo { missing, displaced })
-    }
-
-    /// Sets a copy of the value at the key. Fails only with `OutOfMemory`; the map is then unchanged.
-    fn put_copy(&mut self, key: &[u8], value: &[u8]) -> Result<(), OutOfMemory>
-        ensures { OnOk result
-            (self.new ≡ insert_entry (slice_cmp nat_cmp) self.old key.now value.now) }
-    {
-        let key = Vec::from_slice(self.alloc, key)?;
-        let value = Vec::from_slice(self.alloc, value)?;
-        self.put_owned(key, Bytes::from(value))
-    }
-
     /// Puts the entries of the other map, from the last to the first: each key is then compared with
-    /// few of those that are put. Fails only with `OutOfMemory`; some of them are then put.
-    fn put_each(&mut self, puts: EntryMap, servers: &ServerTable) -> Result<(), OutOfMemory>
+    /// few of those that are put. Fails only with `OutOfMemory`; some of them are then put, and what
+    /// was displaced takes them back.
+    fn put_each(
+        &mut self,
+        puts: EntryMap,
+        servers: &ServerTable,
+        displaced: &mut Vec<Displaced>,
+    ) -> Result<(), OutOfMemory>
         ensures ok { OnOk result (IsPutOver puts self.old self.new) }
-        ensures others { (key : Key) → has_entry puts key ≡ false
-            → entry_value self.new key ≡ entry_value self.old key }
-        ensures there { (key : Key) → has_entry self.old key ≡ true
-            → has_entry self.new key ≡ true }
+        ensures takes { (before : Entries) → TakesBack displaced.old.items before self.old
+            → TakesBack displaced.new.items before self.new }
         ensures order { IsInOrder self.old → IsInOrder self.new }
     {
         let mut rest = puts.values.into_iter();
         while let Some((key, row)) = rest.next_back() {
-            self.put_row(key, row, servers)?;
+            self.put_row(key, row, servers, displaced)?;
         }
         Ok(())
     }
 
-    /// Takes back entries that were put. Does not allocate.
-    pub(crate) fn take_back(&mut self, undo: Undo)
-        ensures { (old : Entries) → IsInOrder old → TakesBack undo.0 undo.1 old self.old
-            → self.new ≡ old }
+    /// Takes back entries that were put, the last one first. Does not allocate.
+    pub(crate) fn take_back(&mut self, mut displaced: Vec<Displaced>)
+        ensures { (before : Entries) → TakesBack displaced.items before self.old
+            → self.new ≡ before }
     {
-        let Undo { missing, displaced } = undo;
-        self.remove_listed(&missing, &EntryMap::new(self.alloc));
-        self.overwrite_all(displaced);
+        while let Some(last) = displaced.pop() {
+            self.put_back(last);
+        }
+    }
+
+    /// Puts back what stood at a key: a row if there is another one there, or none. Does not allocate.
+    fn put_back(&mut self, last: Displaced)
+        ensures { (is_some last.1 ≡ true → has_entry self.old last.0 ≡ true)
+            → self.new ≡ value_back self.old last.0 last.1 }
+    {
+        let Displaced { key, row } = last;
+        match row {
+            Some(row) => self.overwrite(key, row),
+            None => self.remove_key(key.as_slice()),
+        }
     }
 
     /// The set without the keys at which the map has an entry. Takes a look-up in the set for each entry.
@@ -370,19 +359,6 @@ impl EntryMap {
             keys.remove(key.as_slice());
         }
         keys
-    }
-
-    /// Puts all entries of the other map, if this one has an entry at each of their keys. Does not
-    /// allocate.
-    fn overwrite_all(&mut self, puts: EntryMap)
-        ensures values { ((key : Key) → has_entry puts key ≡ true → has_entry self.old key ≡ true)
-            → (key : Key) → entry_value self.new key
-            ≡ option_or (entry_value puts key) (entry_value self.old key) }
-        ensures order { IsInOrder self.old → IsInOrder self.new }
-    {
-        for (key, row) in puts.values {
-            self.overwrite(key, row);
-        }
     }
 
     /// Puts the row at the key, if the map has an entry there. Does not allocate.
@@ -552,24 +528,28 @@ impl EntryMap {
     }
 }
 
-/// What takes back entries that were put in a map.
+/// A key, and what stood there before a row was put: a row, or none. Contracts see the key's bytes, and
+/// the value.
 #[derive(Drop)]
-pub(crate) struct Undo {
-    /// The keys at which there was no entry.
-    missing: Vec<Vec<u8>>,
-    /// The entries at the other keys, as they were.
-    displaced: EntryMap,
+pub(crate) struct Displaced {
+    key: Vec<u8>,
+    row: Option<Row>,
 }
 
-impl Model for Undo {
-    ghost use Rattle.std.specs.Prelude.{List};
-    ghost use Rattle.system_keys.specs.Keys.{Key};
-    ghost use Rattle.model.specs.Metadata.{Entries};
-    ghost use Rattle.metadata.specs.MapEntries.{bytes_of_keys};
+impl Model for Displaced {
+    ghost use Rattle.metadata.specs.Overwrites.{Displaced as Seen};
 
-    ghost Value = { List Key × Entries };
+    ghost Value = { Seen };
 
-    ghost view = { λ u. (bytes_of_keys u.missing.items, u.displaced) };
+    ghost view = { λ d. (d.key.items, d.row) };
+}
+
+/// Adds what stood at a key to what was displaced before. Does not allocate.
+fn add_displaced(displaced: &mut Vec<Displaced>, key: Vec<u8>, row: Option<Row>)
+    requires { vec_len displaced.old < vec_capacity displaced.old }
+    ensures { displaced.new.items ≡ displaced.old.items ++ (key.items, row) ∷ [] }
+{
+    displaced.push_reserved(Displaced { key, row });
 }
 
 /// The key of the keyServers entry at a key. Fails only with `OutOfMemory`.

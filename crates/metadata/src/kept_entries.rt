@@ -16,7 +16,7 @@ ghost use Rattle.metadata.specs.CachedTags.{IsBlanked, names_server};
 ghost use Rattle.metadata.specs.Started.{after_rows};
 
 use crate::applying::{cleared_keys, is_applied};
-use crate::entry_map::{EntryMap, Undo};
+use crate::entry_map::{Displaced, EntryMap};
 use crate::key_set::KeySet;
 use crate::server_table::ServerTable;
 use crate::staged::Staged;
@@ -211,24 +211,24 @@ impl KeptEntries {
         &mut self,
         puts: KeptEntries,
         servers: &ServerTable,
-    ) -> Result<Undo, OutOfMemory>
+    ) -> Result<Vec<Displaced>, OutOfMemory>
         ensures ok { OnOk result (IsPutOver puts self.old self.new) }
-        ensures undo { IfOk result (λ undo. TakesBack undo.0 undo.1 self.old self.new) }
+        ensures takes { IfOk result (λ displaced. TakesBack displaced.items self.old self.new) }
         ensures order { IsInOrder self.new }
         ensures kept { AreKept self.new }
         ensures err { OnErr result (self.new ≡ self.old) }
     {
-        let undo = self.entries.put_all(puts.entries, servers)?;
-        Ok(undo)
+        let displaced = self.entries.put_all(puts.entries, servers)?;
+        Ok(displaced)
     }
 
     /// Takes back entries that were put. Does not allocate.
-    pub(crate) fn take_back(&mut self, undo: Undo)
-        requires { MayTakeBack undo.0 undo.1 self.old }
-        ensures { (old : Entries) → IsInOrder old → TakesBack undo.0 undo.1 old self.old
-            → self.new ≡ old }
+    pub(crate) fn take_back(&mut self, displaced: Vec<Displaced>)
+        requires { MayTakeBack displaced.items self.old }
+        ensures { (before : Entries) → TakesBack displaced.items before self.old
+            → self.new ≡ before }
     {
-        self.entries.take_back(undo);
+        self.entries.take_back(displaced);
     }
 
     /// Removes the entries at the keys of the set. Does not allocate.

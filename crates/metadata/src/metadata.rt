@@ -225,7 +225,7 @@ impl Metadata {
     /// then unchanged.
     fn put_over(&mut self, puts: KeptEntries) -> Result<UndoPut, OutOfMemory>
         ensures ok { OnOk result (IsPutOver puts self.old self.new) }
-        ensures undo { IfOk result (λ put. TakesBack put.undo.0 put.undo.1 self.old self.new) }
+        ensures takes { IfOk result (λ put. TakesBack put.displaced.items self.old self.new) }
         ensures servers { IfOk result (λ put.
             ServersTakeBack put.servers (entry_value self.old) (entry_value self.new)) }
         ensures was_in_order { OnOk result (IsInOrder self.old) }
@@ -238,9 +238,9 @@ impl Metadata {
         let _others = self.entries.map();
         let servers = puts.map().server_tag_keys()?;
         self.servers.reserve(&servers)?;
-        let undo = self.entries.put_over(puts, &self.servers)?;
+        let displaced = self.entries.put_over(puts, &self.servers)?;
         self.servers.refresh(&servers, self.entries.map());
-        Ok(UndoPut { undo, servers })
+        Ok(UndoPut { displaced, servers })
     }
 
     /// The entries of the metadata after the rows that were started. Does not allocate.
@@ -288,8 +288,8 @@ impl Metadata {
         ensures { (before after : Entries)
             → IsStarted started before after self.old → self.new ≡ before }
     {
-        let UndoPut { undo, servers } = started.put;
-        self.entries.take_back(undo);
+        let UndoPut { displaced, servers } = started.put;
+        self.entries.take_back(displaced);
         self.servers.refresh(&servers, self.entries.map());
     }
 

@@ -2,7 +2,7 @@
 
 ghost use Rattle.std.specs.Prelude.{◌≡◌};
 
-use crate::entry_map::{EntryMap, Undo};
+use crate::entry_map::{Displaced, EntryMap};
 use crate::key_runs::KeyRuns;
 use crate::key_set::KeySet;
 use std::marker::Model;
@@ -22,7 +22,8 @@ pub struct StartedRows {
 /// What takes back what was put: the entries, and the servers.
 #[derive(Drop)]
 pub(crate) struct UndoPut {
-    pub(crate) undo: Undo,
+    /// What stood where entries were put.
+    pub(crate) displaced: Vec<Displaced>,
     /// The keys of the serverTag entries that were put.
     pub(crate) servers: KeySet,
 }
@@ -34,8 +35,7 @@ impl Model for StartedRows {
 
     ghost view = { λ s. record {
       removed = s.removed;
-      missing = s.put.undo.0;
-      displaced = s.put.undo.1;
+      displaced = s.put.displaced.items;
       servers = s.put.servers;
       locked = s.locked;
     } };

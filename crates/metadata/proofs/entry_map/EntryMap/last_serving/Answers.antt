@@ -1,5 +1,5 @@
 -- The last entry up to the key is the last keyServers entry up to it, or there is no such entry.
-use Rattle.std.proofs.Common.{◌≡◌, ◌∙◌, ap, sym, subst, filter, None, true, false, List, ℕ, rules}
+use Rattle.std.proofs.Common.{◌≡◌, ◌∙◌, ap, sym, subst, filter, None, true, false, rules}
 use Rattle.std.specs.List.{last_or}
 use Rattle.system_keys.specs.Families.{key_servers_family, is_in}
 use Rattle.model.specs.Metadata.{Entries, IsInOrder}

@@ -1,6 +1,6 @@
 -- A removal from the map is one from its entries.
-use Rattle.std.proofs.Common.{◌∙◌, ap, None, if◌then◌else◌}
-use Rattle.model.specs.Metadata.{Entries, entry_value}
+use Rattle.std.proofs.Common.{◌∙◌, ap, subst, None, if◌then◌else◌}
+use Rattle.model.specs.Metadata.{Entries, IsInOrder, entry_value}
 use Rattle.metadata.specs.MapEntries.{entries_of}
 use Rattle.metadata.specs.Overwrites.{is_same_key}
 use Rattle.metadata.proofs.KeyValues.{value_removed}
@@ -18,3 +18,6 @@ returns-clause-values c = λ other.
 
 pub returns-clause-order : goal.returns-clause-order
 returns-clause-order c = entries_in_order _ c.remove.ensures.ordered
+
+pub returns-clause-was_in_order : goal.returns-clause-was_in_order
+returns-clause-was_in_order c = subst IsInOrder c.self.view_is c.self.invariant

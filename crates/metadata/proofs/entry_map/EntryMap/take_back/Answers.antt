@@ -1,18 +1,19 @@
--- What was put is taken back.
-use Rattle.std.proofs.Common.{subst, sym, ℕ, List}
-use Rattle.std.specs.Global.{Vec}
-use Rattle.system_keys.specs.Keys.{Key}
-use Rattle.model.specs.Metadata.{Entries, IsInOrder}
-use Rattle.metadata.specs.MapEntries.{bytes_of_keys}
-use Rattle.metadata.specs.Overwrites.{TakesBack}
-use Rattle.metadata.proofs.PutEntries.{taken_back}
+-- A turn of the loop puts back what was displaced last.
+use Rattle.std.proofs.Common.{◌≡◌, ◌∙◌, sym, subst, length, List, vec_len, rules}
+use Rattle.metadata.specs.Overwrites.{Displaced, TakesBack}
+use Rattle.metadata.proofs.KeySets.{none_left}
+use Rattle.metadata.proofs.TakenBack.{takes_less, taken_all}
 use Rattle.metadata.proofs.entry_map.EntryMap.take_back.Goals as goal
 
+pub loop-last-init : goal.loop-last-init
+loop-last-init c = λ before takes. takes
+
+pub loop-last-preserved : goal.loop-last-preserved
+loop-last-preserved c = λ before takes.
+    takes_less c.pop.new.self.items c.in-Some.last before c.loop-last.self c.put_back.new.self c.put_back.ensures
+    (subst (λ (displaced : List Displaced). TakesBack displaced before c.loop-last.self) c.in-Some.ensures.items (c.loop-last.invariant before takes))
+
 pub returns : goal.returns
-returns c = λ old s takes.
-    taken_back (bytes_of_keys c.deref.result.now) c.undo.inside.displaced c.new.result old c.args.self.now c.remove_listed-3.new.self c.overwrite_all.new.self s
-    (c.overwrite_all.ensures.order (c.remove_listed-3.ensures.order (subst IsInOrder c.remove_listed.view_is c.remove_listed.invariant)))
-    c.new.ensures
-    (subst (λ (keys : List (Vec ℕ)). TakesBack (bytes_of_keys keys) c.undo.inside.displaced old c.args.self.now) (sym c.deref.ensures.value)
-    (subst (λ (undo : List Key × Entries). TakesBack undo.0 undo.1 old c.args.self.now) (sym c.undo.view_is) takes))
-    c.remove_listed-3.ensures.values c.overwrite_all.ensures.values
+returns c = λ before takes.
+    let size : vec_len c.loop-last.displaced ≡ length c.loop-last.displaced.items = search rules in
+    taken_all c.loop-last.displaced.items before c.loop-last.self (none_left c.loop-last.displaced.items (sym size ∙ c.in_default.ensures.cases.0)) (c.loop-last.invariant before takes)

@@ -9,10 +9,10 @@ use Rattle.metadata.proofs.metadata.Metadata.take_back_rows.Goals as goal
 
 pub invariant_of-self : goal.invariant_of-self
 invariant_of-self c =
-    let takes : TakesBack c.started.inside.put.undo.0 c.started.inside.put.undo.1 c.requires.before c.self.inside.entries =
-    subst (λ (started : Started). TakesBack started.missing started.displaced c.requires.before c.self.inside.entries) (sym c.started.view_is)
-    (subst (λ (entries : Entries). TakesBack c.args.started.missing c.args.started.displaced c.requires.before entries) (sym c.self.view_is) c.requires.is.takes) in
-    let same : c.take_back.new.self ≡ c.requires.before = c.take_back.ensures c.requires.before c.requires.is.order takes in (
+    let takes : TakesBack c.started.inside.put.displaced.items c.requires.before c.self.inside.entries =
+    subst (λ (started : Started). TakesBack started.displaced c.requires.before c.self.inside.entries) (sym c.started.view_is)
+    (subst (λ (entries : Entries). TakesBack c.args.started.displaced c.requires.before entries) (sym c.self.view_is) c.requires.is.takes) in
+    let same : c.take_back.new.self ≡ c.requires.before = c.take_back.ensures c.requires.before takes in (
       c.self.invariant.0,
       servers_taken_back c.started.inside.put.servers c.requires.before c.self.inside.entries c.take_back.new.self c.self.inside.servers.tags c.refresh.new.self.tags
           (subst (λ (started : Started). ServersTakeBack started.servers (entry_value c.requires.before) (entry_value c.self.inside.entries)) (sym c.started.view_is)
