@@ -22,6 +22,7 @@ pub mod RangeEntries
 pub mod RouteEntries
 pub mod ServerTables
 pub mod ServingEntries
+pub mod SetEntries
 pub mod SortedTags
 pub mod StagedChanges
 pub mod Tags
