@@ -7,7 +7,8 @@ use Rattle.system_keys.specs.Keys.{Key}
 use Rattle.system_keys.specs.Families.{server_tag_family, is_kept_key}
 use Rattle.model.specs.Metadata.{Entries, IsInOrder, AreKept, entry_value, after_change}
 use Rattle.metadata.specs.Overwrites.{is_same_key, is_listed, TakesBack}
-use Rattle.metadata.specs.CachedTags.{names_server, may_tag_some, HaveSameServers}
+use Rattle.metadata.specs.CachedTags.{names_server, may_tag_some}
+use Rattle.metadata.specs.SameServers.{HaveSameServers}
 use Rattle.metadata.specs.ServerTables.{ServerTags, AreServers, decoded_tag}
 use Rattle.metadata.specs.Started.{Started, IsStarted}
 use Rattle.metadata.proofs.CachedTags.{begins}

@@ -1,5 +1,5 @@
 -- What the values of keyServers rows name, from which their tags are gathered when they are read.
-use Rattle.std.specs.Prelude.{◌≡◌, ℕ, List, [], ◌++◌, Bool, true, ◌&&◌, Option, None, Some}
+use Rattle.std.specs.Prelude.{◌≡◌, ℕ, List, [], ◌++◌, Bool, ◌&&◌, Option, None, Some}
 use Rattle.std.specs.Prelude.{if◌then◌else◌, flat_map, nat_eq, Result, Ok}
 use Rattle.std.specs.List.{list_any, starts_with}
 use Rattle.system_keys.specs.declared.location.Location.{Location}
@@ -70,8 +70,3 @@ IsBlanked keys before after =
     → entry_value after key
     ≡ (if (names_server key && is_kept_key key) && is_listed keys key
     then Some [] else entry_value before key)
-
--- both entries have the same value at the key of each serverTag row
-abbrev pub HaveSameServers : Entries → Entries → Type 0
-HaveSameServers old new =
-    (key : Key) → names_server key ≡ true → entry_value new key ≡ entry_value old key

@@ -8,6 +8,8 @@ pub mod Overwrites
 pub mod OwnRoutes
 -- what keyServers rows name, and their tags
 pub mod CachedTags
+-- entries with the same serverTag rows
+pub mod SameServers
 -- the table of the servers' tags, and what brings it up to date
 pub mod ServerTables
 -- runs of rows that are hidden

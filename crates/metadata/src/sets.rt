@@ -9,7 +9,7 @@ ghost use Rattle.model.specs.Metadata.{Entries, after_change, after_changes, aft
 ghost use Rattle.model.specs.Metadata.{IsInOrder, after_journal_row, entry_value};
 ghost use Rattle.system_keys.specs.Families.{is_kept_key};
 ghost use Rattle.metadata.specs.Overwrites.{TakesBack};
-ghost use Rattle.metadata.specs.CachedTags.{HaveSameServers};
+ghost use Rattle.metadata.specs.SameServers.{HaveSameServers};
 ghost use Rattle.metadata.specs.Started.{after_rows};
 
 use crate::applying::is_applied;

@@ -3,7 +3,7 @@ use Rattle.std.proofs.Common.{◌≡◌, drop}
 use Rattle.model.specs.Metadata.{Entries}
 use Rattle.metadata.specs.Started.{after_rows}
 use Rattle.metadata.specs.Overwrites.{TakesBack}
-use Rattle.metadata.specs.CachedTags.{HaveSameServers}
+use Rattle.metadata.specs.SameServers.{HaveSameServers}
 use Rattle.metadata.proofs.kept_entries.KeptEntries.put_rows.Given as goal
 
 abbrev pub invariant-loop-row : goal.invariant-loop-row

@@ -2,7 +2,7 @@
 use Rattle.std.proofs.Common.{◌≡◌, drop, fold}
 use Rattle.model.specs.Metadata.{Entries, after_state}
 use Rattle.metadata.specs.Overwrites.{TakesBack}
-use Rattle.metadata.specs.CachedTags.{HaveSameServers}
+use Rattle.metadata.specs.SameServers.{HaveSameServers}
 use Rattle.metadata.proofs.kept_entries.KeptEntries.put_states.Given as goal
 
 abbrev pub invariant-loop-transaction : goal.invariant-loop-transaction
