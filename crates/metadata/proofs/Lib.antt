@@ -23,6 +23,7 @@ pub mod RouteEntries
 pub mod RouteWalks
 pub mod ServerTables
 pub mod ServingEntries
+pub mod SetEntries
 pub mod SortedTags
 pub mod StagedChanges
 pub mod Tags

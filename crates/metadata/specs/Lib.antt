@@ -6,6 +6,8 @@ pub mod MapEntries
 pub mod Overwrites
 -- what keyServers rows name, and their tags
 pub mod CachedTags
+-- entries with the same serverTag rows
+pub mod SameServers
 -- the table of the servers' tags, and what brings it up to date
 pub mod ServerTables
 -- the routes of entries, each with the tags of its own value

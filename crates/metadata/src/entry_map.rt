@@ -123,7 +123,7 @@ impl EntryMap {
     /// Puts the row at the key, with its value read if it is that of a keyServers entry; its servers
     /// are looked for in the table. What stood there is added to what was displaced before. Fails
     /// only with `OutOfMemory`; the map is then unchanged.
-    fn put_row(
+    pub(crate) fn put_row(
         &mut self,
         key: Vec<u8>,
         row: Row,

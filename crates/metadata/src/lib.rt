@@ -22,6 +22,7 @@ mod row;
 mod row_names;
 mod row_tags;
 mod server_table;
+mod sets;
 mod staged;
 mod started_rows;
 mod tag_list;

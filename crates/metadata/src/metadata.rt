@@ -1,7 +1,7 @@
 //! The metadata that every commit proxy keeps the same, as its callers see it: changes and rows are
 //! applied, and the lock, tags and routing are read.
 
-ghost use Rattle.std.specs.Prelude.{◌≡◌, [], false, None, IsOk, IfOk, OnOk, OnErr};
+ghost use Rattle.std.specs.Prelude.{◌≡◌, [], false, None, IsOk, IfOk, IfSome, IfNone, OnOk, OnErr};
 ghost use Rattle.std.specs.Prelude.{option_map, fold, map, slice_get};
 ghost use Rattle.std.specs.List.{list_any};
 ghost use Rattle.system_keys.specs.declared.change.Change.TheVariants.{Set, Clear};
@@ -193,10 +193,54 @@ impl Metadata {
             started.locked ≡ is_locked (after_rows self.old rows.now)) }
         ensures err { OnErr result (self.new ≡ self.old) }
     {
+        if let Some(started) = self.start_sets(rows, last)? {
+            return Ok(started);
+        }
         let mut staged = self.entries.stage_rows(rows)?;
         let locked = self.entries.is_locked_after(&staged);
         self.entries.stage_row(last, &mut staged)?;
         self.start(staged, locked)
+    }
+
+    /// Starts to apply the rows at once, if they set entries, none of them of a serverTag, and clear
+    /// nothing; else returns None, and the metadata is unchanged. There are no runs of what is to be
+    /// removed. Fails only with `OutOfMemory`; the metadata is then unchanged.
+    fn start_sets(
+        &mut self,
+        rows: &[JournalRow],
+        last: &JournalRow,
+    ) -> Result<Option<StartedRows>, OutOfMemory>
+        ensures ok { let after = after_journal_row (after_rows self.old rows.now) last.now in
+            IfOk result (λ found. IfSome found (λ started. IsStarted started self.old after self.new)) }
+        ensures locked { IfOk result (λ found. IfSome found (λ started.
+            started.locked ≡ is_locked (after_rows self.old rows.now))) }
+        ensures none { IfOk result (λ found. IfNone found (self.new ≡ self.old)) }
+        ensures err { OnErr result (self.new ≡ self.old) }
+    {
+        let alloc = self.entries.map().alloc();
+        let mut displaced = Vec::new(alloc);
+        match self
+            .entries
+            .put_sets(rows, last, &self.servers, &mut displaced)
+        {
+            Ok(Some(locked)) => Ok(Some(StartedRows {
+                removed: KeySet::new(alloc),
+                runs: KeyRuns::new(alloc),
+                put: UndoPut {
+                    displaced,
+                    servers: KeySet::new(alloc),
+                },
+                locked,
+            })),
+            Ok(None) => {
+                self.entries.take_back(displaced);
+                Ok(None)
+            }
+            Err(OutOfMemory) => {
+                self.entries.take_back(displaced);
+                Err(OutOfMemory)
+            }
+        }
     }
 
     /// Starts to change what is staged: puts what is put, and over the serverTag entries that are
