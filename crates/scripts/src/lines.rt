@@ -20,7 +20,7 @@ pub fn print_routing_head<P: Page>(
     metadata_version: Option<&[u8]>,
 )
     ensures { Prints P.has_printed page.old page.new
-        (routing_head version locked (option_map (λ value. value.now) metadata_version)) }
+        (routing_head version locked (option_map (λ value. value.now) metadata_version.entry)) }
 {
     print_version(page, version);
     print_locked(page, locked);
@@ -69,7 +69,7 @@ fn print_locked<P: Page>(page: &mut P, locked: bool)
 
 fn print_metadata_version<P: Page>(page: &mut P, value: Option<&[u8]>)
     ensures { Prints P.has_printed page.old page.new
-        (metadata_version_line (option_map (λ value. value.now) value)) }
+        (metadata_version_line (option_map (λ value. value.now) value.entry)) }
 {
     page.push("metadata_version ");
     push_quoted_or_none(page, value);
@@ -78,7 +78,7 @@ fn print_metadata_version<P: Page>(page: &mut P, value: Option<&[u8]>)
 
 fn push_quoted_or_none<P: Page>(page: &mut P, value: Option<&[u8]>)
     ensures { Prints P.has_printed page.old page.new
-        (quoted_or_none (option_map (λ value. value.now) value)) }
+        (quoted_or_none (option_map (λ value. value.now) value.entry)) }
 {
     match value {
         Some(bytes) => push_quoted(page, bytes),
