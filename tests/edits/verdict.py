@@ -13,7 +13,7 @@ WRONG = re.compile(r"(?m)^(?:\./)?(\S+):\d+:\d+: error: (?:`([^`]*)`: )?(.*)$")
 # A proof that names what the edit took away: such an error says little of the contract.
 NAME_IS_GONE = re.compile(r"has no field|is not in scope|has no `|was not admitted")
 # A function that the edit put beyond the prover: such an edit says nothing of the contract.
-IS_NOT_COVERED = re.compile(r"the borrow checker does not cover this function|its part in its proof is not made yet")
+IS_NOT_COVERED = re.compile(r"the borrow checker does not cover this function|part in its proof is not made yet")
 # A long error of this kind goes on in the next line.
 GOES_ON = re.compile(rf"\n +(?={NAME_IS_GONE.pattern})")
 # What rests on a declaration that fell is not checked: no fault of its own.
