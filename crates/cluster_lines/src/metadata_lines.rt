@@ -65,7 +65,8 @@ fn print_routes<P: Page>(
 {
     let mut routes = metadata.routes();
     while let Some((begin, tags)) = routes.next() {
-        print_route(page, begin, tags.list(alloc)?.as_slice());
+        let list = tags.list(alloc)?;
+        print_route(page, begin, list.as_slice());
     }
     Ok(())
 }
