@@ -12,8 +12,8 @@ KINDS = (
     ("threads, locks and inboxes", "#fbe8cf", (
         "facts", "agreed_ledger", "locked_resolvers", "locked_cluster", "inboxes", "workers", "shared_cluster")),
     ("scripts, texts and the program", "#eadff3", (
-        "scripts", "cluster_lines", "cluster_scripts", "fold_run", "turns_run", "threads_scripts", "threads_lines",
-        "threads_run", "command_line", "proxy_run", "script_texts", "session_texts", "session_handle",
+        "script_tokens", "scripts", "cluster_lines", "cluster_scripts", "fold_run", "turns_run", "threads_scripts",
+        "threads_lines", "threads_run", "command_line", "proxy_run", "script_texts", "session_texts", "session_handle",
         "gakyhera", "pages", "sessions", "session_run", "proxy_session")),
 )
 

@@ -1,9 +1,18 @@
-"""A session from Python: each line is given when the answer to the one before is known. Run it at the top of the repository."""
+"""A session from Python: each line is given when the answer to the one before is known.
+
+usage: examples/sessions/client.py [PROGRAM]
+
+PROGRAM is a built proxy_session. Without one it is what `tools/unproved_program proxy_session` leaves, and this runs at the
+top of the repository.
+"""
 import json
+import os
 import subprocess
 import sys
 
 program = sys.argv[1] if len(sys.argv) > 1 else "out/proxy_session_unproved"
+if not os.path.exists(program):
+    raise SystemExit(f"{program} is not there: name a proxy_session, or run tools/unproved_program proxy_session")
 session = subprocess.Popen([program], stdin=subprocess.PIPE, stdout=subprocess.PIPE, text=True)
 
 

@@ -9,7 +9,7 @@ ROOT = os.path.dirname(os.path.dirname(os.path.dirname(os.path.abspath(__file__)
 sys.path.insert(0, ROOT)
 
 from tests.sessions.reference import Session
-from tests.sessions.trials import CLUSTER, LINES, SHOW, lines_of
+from tests.sessions.trials import CLUSTER, FINISH, LINES, SHOW, lines_of, long_batch
 
 FOLDERS = {"fold": os.path.join(ROOT, "examples"), "turns": os.path.join(ROOT, "examples", "turns")}
 
@@ -47,9 +47,14 @@ def example_sessions():
 
 
 def other_sessions():
-    """Lines before a cluster, wrong lines, and a long answer; and their answers."""
+    """Lines before a cluster, wrong lines, and long answers; and their answers. A finish that is given again, since its
+    answer is longer than the room of a binding, finishes the other batch.
+    """
     long = b'{"show":{"proxy":1,"ask":[%s]}}' % b",".join([b'"k"'] * 1_000)
-    for name, lines in (("lines", [SHOW, *LINES, *LINES]), ("long", [CLUSTER, long, b"\xff", long, SHOW, CLUSTER])):
+    offers = [b'{"offer":{"row":%d,"resolver":%d}}' % (row, resolver) for row in (0, 1) for resolver in (0, 1)]
+    finishes = [CLUSTER, long_batch(), long_batch(), *offers, FINISH, FINISH, SHOW]
+    shows = [CLUSTER, long, b"\xff", long, SHOW, CLUSTER]
+    for name, lines in (("lines", [SHOW, *LINES, *LINES]), ("long", shows), ("long_finishes", finishes)):
         yield name, lines, answers_of(lines)
 
 

@@ -104,6 +104,26 @@ def wrong_error(session, line, error):
         pass
 
 
+class Answering:
+    """Stands in for the library: each line of a session comes to this status."""
+
+    def __init__(self, status):
+        self.gakyhera_session_line = lambda *_: status
+        self.gakyhera_session_new = lambda *_: 0
+        self.gakyhera_session_free = lambda *_: None
+
+
+def wrong_statuses():
+    """Words about lines that have no answer and must raise."""
+    library = gakyhera.library
+    try:
+        for status, error in ((4, MemoryError), (7, ValueError), (8, gakyhera.AnswerLost)):
+            gakyhera.library = Answering(status)
+            yield from wrong_error(gakyhera.Session(), SHOW, error)
+    finally:
+        gakyhera.library = library
+
+
 def wrong_program_sessions():
     """The same, where there is no library but a program."""
     library, gakyhera.library = gakyhera.library, None
@@ -182,6 +202,7 @@ def main():
     seeds = int(sys.argv[1])
     wrong = [*wrong_examples(), *wrong_words(), *wrong_long_texts(), *wrong_in_threads(), *tried_random(seeds)]
     wrong += [*wrong_sessions(), *wrong_long_answers(), *wrong_closed_sessions(), *wrong_program_sessions()]
+    wrong += wrong_statuses()
     wrong += tried_lines(seeds)
     for words in wrong[:20]:
         print(words)

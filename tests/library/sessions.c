@@ -79,6 +79,18 @@ static void must_be_none(gakyhera_session *session, text line, const char *path)
     free(out);
 }
 
+/* Begins a session in place of the one that is there, which is freed; without memory it goes on. */
+static void begin_again(gakyhera_session *session, text before, const char *path) {
+    text none = { before.bytes, 0 };
+    for (in_call = 1; gakyhera_session_new(session); in_call = 1) {
+        in_call = 0;
+        must(fail_at != NEVER, "must begin again", path);
+        must_keep(session, before, path);
+    }
+    in_call = 0;
+    must_keep(session, none, path);
+}
+
 /* A whole session, each line with as much room as its answer needs and so much more; or with none, if `more` is NEVER. */
 static void whole_session(text lines, text answers, int more, const char *path) {
     gakyhera_session session = GAKYHERA_SESSION_INIT;
@@ -101,6 +113,7 @@ static void whole_session(text lines, text answers, int more, const char *path) 
     }
     must(answer_at == answers.length, "too few lines", path);
     if (forgets) return;
+    begin_again(&session, before, path);
     in_call = 1;
     gakyhera_session_free(&session), gakyhera_session_free(&session);
     in_call = 0;

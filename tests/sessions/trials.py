@@ -288,6 +288,12 @@ def refused_words(program):
         program.runs += 1
         ended = subprocess.run([program.path, *words], input=CLUSTER, capture_output=True, timeout=LIMIT)
         expect("words %r" % words, (ended.returncode, ended.stdout, ended.stderr), (2, b"", USAGE))
+    for number in range(1, 1_000_000):
+        how = program.refusing({"REFUSE_GROWTH": str(number)})
+        ended = subprocess.run([program.path, "turns"], input=CLUSTER, capture_output=True, timeout=LIMIT, env=how)
+        if not program.has_refused():
+            break
+        expect("a word, growth %d" % number, (ended.returncode in (2, 4), ended.stdout), (True, b""))
 
 
 # ---- where memory or a device fails
@@ -306,12 +312,16 @@ def judge_growth(status, output, lines, what):
             expect("%s, %r" % (what, line[:80]), text, session.answer(line))
 
 
+def long_batch():
+    """A line that sequences a batch whose finish has a long answer, of over five kilobytes."""
+    nothing = {"snapshot": 0, "reads": [], "writes": [], "mutations": [], "lock_aware": False}
+    return json.dumps({"sequence": {"proxy": 0, "batch": [nothing] * MANY}}).encode()
+
+
 def long_answers(program, lines):
     """The same where the answer of a finish is long."""
-    nothing = {"snapshot": 0, "reads": [], "writes": [], "mutations": [], "lock_aware": False}
-    batch = json.dumps({"sequence": {"proxy": 0, "batch": [nothing] * MANY}}).encode()
     offers = [b'{"offer":{"row":0,"resolver":%d}}' % resolver for resolver in (0, 1)]
-    refused_growths(program, [lines[0], batch, *offers, FINISH, SHOW], 13)
+    refused_growths(program, [lines[0], long_batch(), *offers, FINISH, SHOW], 13)
 
 
 def refused_growths(program, lines, step=1):

@@ -6,13 +6,13 @@ ghost use Rattle.scripts.specs.Shapes.{count_members, number_shape};
 ghost use Rattle.scripts.specs.Streams.{Slot, one};
 
 use crate::given_move::GivenMove;
-use json::Reader as TokenReader;
 use mutation::GivenRange;
+use script_tokens::Tokens;
 use scripts::{Fields, Streamed, take_into_slot, take_object};
 use std::alloc::Global;
 
 impl Streamed for GivenMove {
-    fn from_tokens(alloc: Global, reader: &mut TokenReader<'_>, depth: usize) -> Option<GivenMove> {
+    fn from_tokens(alloc: Global, reader: &mut Tokens<'_>, depth: usize) -> Option<GivenMove> {
         let fields: MoveFields = take_object(alloc, reader, depth)?;
         Some(GivenMove {
             range: fields.range?,
@@ -43,7 +43,7 @@ impl Fields for MoveFields {
     fn take_field(
         &mut self,
         alloc: Global,
-        reader: &mut TokenReader<'_>,
+        reader: &mut Tokens<'_>,
         depth: usize,
         name: &str,
     ) -> Option<()> {

@@ -1,9 +1,8 @@
 -- The owners at the begin of a range, and at each start inside, say who is asked.
-use Rattle.std.proofs.Common.{◌≡◌, ℕ, ◌<◌, ◌≤◌, refl, sym, ap, ap₂, subst, ◌∙◌, Bool, true, false, not, cond, ◌&&◌, ◌||◌, List, [], ◌∷◌, ◌++◌, length, take, replicate, zero, suc, filter, arith}
+use Rattle.std.proofs.Common.{◌≡◌, ℕ, ◌<◌, ◌≤◌, refl, sym, ap, ap₂, subst, ◌∙◌, Bool, true, false, not, cond, ◌&&◌, ◌||◌, List, [], ◌∷◌, ◌++◌, length, filter, arith}
 use Rattle.std.specs.List.{list_any}
 use Rattle.std.specs.declared.ops.Bound.TheVariants.{Included, Excluded, Unbounded}
 use Rattle.std.specs.BTreeMap.Range.{entries_between}
-use Rattle.std.proofs.Math.Seq.{take-append_seam}
 use Rattle.system_keys.specs.Keys.{Key, Range, holds, is_key_below, is_key_up_to}
 use Rattle.system_keys.proofs.KeyOrder.{not_below_back, below_up_to, up_to_trans, up_to_is}
 use Rattle.system_keys.proofs.KeyLaws.{inside_from_holds}
@@ -14,7 +13,7 @@ use Rattle.dated_owners.specs.declared.later_owners.LaterOwner.{LaterOwner}
 use Rattle.dated_owners.specs.declared.walks.Walk.{Walk}
 use Rattle.dated_owners.specs.LaterOwners.{with_first}
 use Rattle.dated_owners.specs.Walks.{takes, takes_later, asked_resolvers}
-use Rattle.dated_owners.specs.Flags.{is_flagged, Flags}
+use Rattle.dated_owners.specs.Flags.{is_flagged, Flags, AreAll}
 use Rattle.dated_owners.specs.Starts.{value_from, AreAbove, AreRising, AreKept, moves_of, is_inside, some_start, changed_in, with_values}
 use Rattle.dated_owners.proofs.FlagLaws.{filter_below}
 use Rattle.dated_owners.proofs.KeyStarts.{key_cmp, value_up_to}
@@ -248,23 +247,11 @@ tried_all ss walk range before left flags after is tried flagged =
 
 -- ---- from no flags
 
-no_flags : (n r : ℕ) → is_flagged (replicate n false) r ≡ false
-no_flags zero r = refl
-no_flags (suc n) zero = refl
-no_flags (suc n) (suc r) = no_flags n r
-
-as_many_flags : (n : ℕ) → length (replicate n false) ≡ n
-as_many_flags zero = refl
-as_many_flags (suc n) = ap suc (as_many_flags n)
-
 -- the first n of them that are flagged in the end are those that pass the test
-pub first_flagged : (test : ℕ → Bool) (n most : ℕ) (flags : List Bool) → n ≤ most → Flags (replicate most false) test flags → filter (is_flagged flags) (each_below n) ≡ filter test (each_below n)
-first_flagged test n most flags few flagged =
-    filter_below (is_flagged flags) test n (λ r there. flagged.each r (omega (arith, there, few, as_many_flags most)) ∙ ap (λ b. b || test r) (no_flags most r))
-
--- a list in front of another is what is taken of both
-pub taken_front : (n : ℕ) (xs ys : List Bool) → n ≡ length xs → take n (xs ++ ys) ≡ xs
-taken_front n xs ys is = ap (λ k. take k (xs ++ ys)) is ∙ take-append_seam xs ys
+pub first_flagged : (test : ℕ → Bool) (n : ℕ) (before flags : List Bool) → n ≤ 64 → AreAll false before → Flags before test flags → filter (is_flagged flags) (each_below n) ≡ filter test (each_below n)
+first_flagged test n before flags few none flagged =
+    filter_below (is_flagged flags) test n
+    (λ r there. flagged.each r (omega (arith, there, few, none.as_many)) ∙ ap (λ b. b || test r) (none.each r (omega (arith, there, few))))
 
 -- ---- the entries of a part of the map
 

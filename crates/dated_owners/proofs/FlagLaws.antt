@@ -1,10 +1,9 @@
 -- Flags of resolvers: one after another, and read off in the end.
-use Rattle.std.proofs.Common.{◌≡◌, ℕ, zero, suc, ◌+◌, ◌<◌, ◌≤◌, refl, sym, ap, ap₂, ◌∙◌, Bool, true, false, ◌||◌, cond, nat_eq, List, [], ◌∷◌, ◌++◌, length, filter, get_or-set_same, get_or-set_other, get_or-take, length-take-le, length-set, take, add-one, arith}
+use Rattle.std.proofs.Common.{◌≡◌, ℕ, zero, suc, ◌+◌, ◌<◌, ◌≤◌, refl, sym, ap, ap₂, ◌∙◌, Bool, true, false, ◌||◌, cond, nat_eq, List, [], ◌∷◌, ◌++◌, filter, add-one, arith}
 use Rattle.std.specs.List.{list_any}
-use Rattle.std.proofs.lemmas.Bool.{eq-eqb, eqb-true, eqb-false, ne_eqb}
+use Rattle.std.proofs.lemmas.Bool.{eqb-true, eqb-false, ne_eqb}
 use Rattle.std.proofs.lemmas.List.Elements.{filter-append}
 use Rattle.std.proofs.lemmas.List.Folds.{list_any-append}
-use Rattle.std.proofs.Math.ListN.{set}
 use Rattle.model.specs.Shares.{each_below}
 use Rattle.dated_owners.specs.Flags.{is_flagged, Flags}
 
@@ -15,10 +14,6 @@ or_assoc false q r = refl
 or_false : (p : Bool) → p ≡ (p || false)
 or_false true = refl
 or_false false = refl
-
-or_true : (p : Bool) → true ≡ (p || true)
-or_true true = refl
-or_true false = refl
 
 -- flags for one test, and then for another
 pub flags_then : (a b c : List Bool) (f g h : ℕ → Bool) → Flags a f b → Flags b g c → ((r : ℕ) → (f r || g r) ≡ h r) → Flags a h c
@@ -39,22 +34,6 @@ flags_alike a b f g flags same = record { as_many = flags.as_many; each = λ r t
 -- no flags for a test that nothing passes
 pub flags_none : (a : List Bool) (f : ℕ → Bool) → ((r : ℕ) → f r ≡ false) → Flags a f a
 flags_none a f none = record { as_many = refl; each = λ r there. or_false (is_flagged a r) ∙ ap (λ m. is_flagged a r || m) (sym (none r)) }
-
--- one flag
-pub flags_one : (a : List Bool) (n : ℕ) → n < length a → Flags a (λ r. nat_eq n r) (set a n true)
-flags_one a n there = record { as_many = length-set a n true; each = λ r inside. by r (nat_eq n r) refl }
-  where
-    by : (r : ℕ) (t : Bool) → nat_eq n r ≡ t → is_flagged (set a n true) r ≡ (is_flagged a r || t)
-    by r true e = let same : n ≡ r = eqb-true n r e in ap (is_flagged (set a n true)) (sym same) ∙ get_or-set_same a n true false there ∙ or_true (is_flagged a r)
-    by r false e = get_or-set_other a n r true false (λ same. absurd (cc (e, eq-eqb n r (sym same)))) ∙ or_false (is_flagged a r)
-
--- a resolver without a flag
-pub flags_past : (a : List Bool) (n : ℕ) → length a ≤ n → Flags a (λ r. nat_eq n r) a
-flags_past a n past = record { as_many = refl; each = λ r inside. by r inside (nat_eq n r) refl }
-  where
-    by : (r : ℕ) → r < length a → (t : Bool) → nat_eq n r ≡ t → is_flagged a r ≡ (is_flagged a r || t)
-    by r inside true e = let same : n ≡ r = eqb-true n r e in absurd (omega arith)
-    by r inside false e = or_false (is_flagged a r)
 
 -- tests that agree below n take the same numbers below n
 pub filter_below : (p q : ℕ → Bool) (n : ℕ) → ((r : ℕ) → r < n → p r ≡ q r) → filter p (each_below n) ≡ filter q (each_below n)
@@ -108,9 +87,3 @@ in_filter p r (suc n) h =
         ap₂ (λ x y. x || y) (none_above p r n (omega arith)) (last (p n) e) ∙ ap p same
     by false e before =
         ap₂ (λ x y. x || y) (before (omega (arith, eqb-false n r e))) (other (p n) e) ∙ bool_or_false (p r)
-
--- the first n flags are enough to list those below n
-pub listed_front : (flags : List Bool) (n : ℕ) → n ≤ length flags → filter (is_flagged (take n flags)) (each_below (length (take n flags))) ≡ filter (is_flagged flags) (each_below n)
-listed_front flags n few =
-    ap (λ k. filter (is_flagged (take n flags)) (each_below k)) (length-take-le n flags few)
-    ∙ filter_below (is_flagged (take n flags)) (is_flagged flags) n (λ r there. get_or-take n flags r false there)

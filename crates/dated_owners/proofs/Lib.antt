@@ -1,4 +1,5 @@
 pub mod FlagLaws
+pub mod BitFlags
 pub mod KeyStarts
 pub mod PutStarts
 pub mod SomeStarts

@@ -1,6 +1,6 @@
 -- Two ways to cut the keys into the greatest ranges with one value are the same.
-use Rattle.std.proofs.Common.{◌≡◌, ◌⊎◌, inl, inr, refl, sym, ap, ap₂, ◌∙◌, ℕ, suc, true, List, [], ◌∷◌, length, subst, IsTrue, codes}
-use Rattle.system_keys.specs.Keys.{Key, Range, is_key_below, holds}
+use Rattle.std.proofs.Common.{◌≡◌, ◌⊎◌, inl, inr, refl, sym, ap, ap₂, ◌∙◌, suc, true, List, [], ◌∷◌, length, subst, IsTrue, codes}
+use Rattle.system_keys.specs.Keys.{Key, is_key_below, holds}
 use Rattle.system_keys.specs.Limits.{key_space_end}
 use Rattle.system_keys.proofs.KeyOrder.{not_below_back, below_cases}
 use Rattle.system_keys.proofs.KeyLaws.{holds_from_inside}

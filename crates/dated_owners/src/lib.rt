@@ -18,7 +18,7 @@ mod refusal;
 mod resolver_set;
 mod walks;
 
-pub use flags::{flag_resolver, flagged_resolvers};
+pub use flags::ResolverFlags;
 pub use owner_map::OwnerMap;
 pub use refusal::Refusal;
 pub use resolver_set::ResolverSet;

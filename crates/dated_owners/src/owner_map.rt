@@ -1,15 +1,18 @@
 //! The map of owners, as its callers see it: ranges move, the resolvers asked about a range are
 //! found, and old owners are forgotten.
 
-ghost use Rattle.std.specs.Prelude.{◌≡◌, ◌≤◌, [], max, IfOk, OnOk, IfErr, OnErr};
+ghost use Rattle.std.specs.Prelude.{◌≡◌, ◌≤◌, [], max, filter, IfOk, OnOk, IfErr, OnErr};
 ghost use Rattle.model.specs.declared.moves.Move.{Move};
 ghost use Rattle.model.specs.OwnerMaps.{StandsForMoves};
 ghost use Rattle.dated_owners.specs.Pieces.{CountsPieces};
 ghost use Rattle.dated_owners.specs.Answers.{AddsOwner, IsMoved, KeepsMoves, KeepsAsking, WalksAlike};
 ghost use Rattle.dated_owners.specs.Answers.{AreReaders, AreWriters};
+ghost use Rattle.model.specs.Shares.{each_below};
+ghost use Rattle.dated_owners.specs.Flags.{is_flagged};
 ghost use Rattle.dated_owners.specs.Walks.{asked_resolvers};
 ghost use Rattle.dated_owners.specs.Refusals.{move_fault, refusal_fault};
 
+use crate::flags::ResolverFlags;
 use crate::later_owners::{LaterOwner, LaterOwners};
 use crate::pieces::{Pieces, add_owner, count_owners, count_pieces, merge, sweep};
 use crate::refusal::Refusal;
@@ -209,6 +212,14 @@ impl OwnerMap {
     {
         let end = range.end_bytes();
         asked_resolvers(self.resolvers, &self.pieces, walk, range.begin(), end)
+    }
+
+    /// Returns the set of those resolvers of the map that are flagged. Allocates nothing.
+    pub fn flagged(&self, flags: ResolverFlags) -> ResolverSet
+        ensures set { result ≡ filter (is_flagged flags) (each_below self.now.resolvers) }
+        ensures few { self.now.resolvers ≤ 64 }
+    {
+        ResolverSet::of_flags(self.resolvers, flags)
     }
 
     /// Raises the oldest version remembered to `oldest`; a lower value changes nothing. Allocates

@@ -1,54 +1,60 @@
 //! A set of resolvers, which takes no memory of its own.
 
-ghost use Rattle.std.specs.Prelude.{◌≡◌, ◌≤◌, nat_eq, filter, IfOk};
+ghost use Rattle.std.specs.Prelude.{◌≡◌, nat_eq, filter, IfOk};
 ghost use Rattle.std.specs.List.{list_any};
 ghost use Rattle.model.specs.Shares.{each_below};
-ghost use Rattle.dated_owners.specs.Flags.{is_flagged};
+ghost use Rattle.dated_owners.specs.Flags.{is_flagged, Flags};
 
-use crate::flags::flagged_resolvers;
+use crate::flags::ResolverFlags;
 use model::ResolverNumber;
 use std::alloc::Global;
 use std::marker::Model;
 use system_keys::{Items, OutOfMemory};
-
-/// The greatest number of resolvers of a cluster.
-pub(crate) const MOST: usize = 64;
 
 /// Some of a cluster's resolvers. Contracts see the list of their numbers, in rising order.
 #[derive(Debug, Drop)]
 pub struct ResolverSet {
     /// How many resolvers the cluster has.
     resolvers: usize,
-    /// Whether each of them is in the set.
-    flags: [bool; MOST],
+    /// Whether each of them is in the set. No other resolver is flagged.
+    flags: ResolverFlags,
 }
 
 impl Model for ResolverSet {
-    ghost use Rattle.std.specs.Prelude.{List, ℕ, ◌≤◌, filter};
+    ghost use Rattle.std.specs.Prelude.{List, ℕ, filter};
     ghost use Rattle.model.specs.Shares.{each_below};
-    ghost use Rattle.dated_owners.specs.Flags.{is_flagged};
+    ghost use Rattle.dated_owners.specs.Flags.{is_flagged, NonePast};
 
     ghost Value = { List ℕ };
 
     ghost view = { λ set. filter (is_flagged set.flags) (each_below set.resolvers) };
 
-    ghost invariant = { λ set. set.resolvers ≤ 64 };
+    ghost invariant = { λ set. NonePast set.resolvers set.flags };
 }
 
 impl ResolverSet {
     /// The flagged ones of `resolvers` resolvers.
-    pub(crate) fn of_flags(resolvers: usize, flags: [bool; MOST]) -> ResolverSet
-        requires { resolvers ≤ 64 }
+    pub(crate) fn of_flags(resolvers: usize, flags: ResolverFlags) -> ResolverSet
         ensures { result ≡ filter (is_flagged flags) (each_below resolvers) }
     {
-        ResolverSet { resolvers, flags }
+        ResolverSet {
+            resolvers,
+            flags: flags.first(resolvers),
+        }
     }
 
     /// Whether the resolver is in the set.
     pub fn has(&self, resolver: ResolverNumber) -> bool
         ensures { result ≡ list_any (λ r. nat_eq r resolver) self.now }
     {
-        resolver < self.resolvers && self.flags[resolver]
+        self.flags.has(resolver)
+    }
+
+    /// Flags the resolvers of the set.
+    pub fn flag_in(&self, flags: &mut ResolverFlags)
+        ensures { Flags flags.old (λ r. list_any (λ a. nat_eq a r) self.now) flags.new }
+    {
+        flags.add(&self.flags);
     }
 
     /// Returns the numbers of the resolvers in the set, in rising order. Fails only with
@@ -56,6 +62,6 @@ impl ResolverSet {
     pub fn list(&self, alloc: Global) -> Result<Items<ResolverNumber>, OutOfMemory>
         ensures { IfOk result (λ list. list ≡ self.now) }
     {
-        flagged_resolvers(alloc, &self.flags[..self.resolvers])
+        self.flags.list(alloc, self.resolvers)
     }
 }

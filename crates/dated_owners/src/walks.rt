@@ -9,10 +9,10 @@ ghost use Rattle.dated_owners.specs.Starts.{some_start};
 ghost use Rattle.dated_owners.specs.Walks.{takes, takes_later};
 ghost use Rattle.dated_owners.specs.Flags.{Flags};
 
-use crate::flags::flag_resolver;
+use crate::flags::ResolverFlags;
 use crate::later_owners::LaterOwner;
 use crate::pieces::{Pieces, is_below};
-use crate::resolver_set::{MOST, ResolverSet};
+use crate::resolver_set::ResolverSet;
 use model::{ResolverNumber, Version};
 use system_keys::Bytes;
 
@@ -40,14 +40,14 @@ pub(crate) fn asked_resolvers(
         result ≡ filter (λ r. some_start [] starts (takes_later walk r) range)
         (each_below resolvers) }
 {
-    let mut flags = [false; MOST];
+    let mut flags = ResolverFlags::all(false);
     walk_range(pieces, walk, begin, end, &mut flags);
     ResolverSet::of_flags(resolvers, flags)
 }
 
 /// Flags the resolvers that are asked about some key from `begin` up to `end`: the owners are those
 /// from each start inside on, and from the last start up to `begin`, which are those at `begin`.
-fn walk_range(pieces: &Pieces, walk: Walk, begin: &[u8], end: &Bytes, flags: &mut [bool])
+fn walk_range(pieces: &Pieces, walk: Walk, begin: &[u8], end: &Bytes, flags: &mut ResolverFlags)
     requires { is_key_below begin.now end.now ≡ true }
     ensures { let range : Range = record { begin = begin.now; end = end.now } in
         let starts = pieces.now.entries in
@@ -64,11 +64,11 @@ fn walk_range(pieces: &Pieces, walk: Walk, begin: &[u8], end: &Bytes, flags: &mu
 }
 
 /// Flags the resolvers that are asked about a key with these owners after the first one.
-fn walk_owners(owners: &[LaterOwner], walk: Walk, flags: &mut [bool])
+fn walk_owners(owners: &[LaterOwner], walk: Walk, flags: &mut ResolverFlags)
     ensures { Flags flags.old (λ r. takes walk r (with_first owners.now)) flags.new }
 {
     match walk {
-        Walk::LastOwner => flag_resolver(flags, last_owner(owners)),
+        Walk::LastOwner => flags.flag(last_owner(owners)),
         Walk::BackTo(bound) => walk_back_to(owners, bound, flags),
     }
 }
@@ -84,15 +84,15 @@ fn last_owner(owners: &[LaterOwner]) -> ResolverNumber
 }
 
 /// Flags the resolvers that the walk visits, back to the bound.
-fn walk_back_to(owners: &[LaterOwner], bound: Version, flags: &mut [bool])
+fn walk_back_to(owners: &[LaterOwner], bound: Version, flags: &mut ResolverFlags)
     ensures { Flags flags.old (λ r. walk_visits bound r (with_first owners.now)) flags.new }
 {
     for i in (0..owners.len()).rev() {
         let owner = &owners[i];
-        flag_resolver(flags, owner.resolver);
+        flags.flag(owner.resolver);
         if owner.date < bound {
             return;
         }
     }
-    flag_resolver(flags, 0);
+    flags.flag(0);
 }

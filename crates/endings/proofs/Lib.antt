@@ -14,5 +14,6 @@ pub mod Remembered
 pub mod Fair
 pub mod ByRows
 pub mod Rounds
+pub mod Cycles
 pub mod EventsLeft
 pub mod Scenarios

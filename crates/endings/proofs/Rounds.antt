@@ -35,7 +35,7 @@ rows_work : (config : Config) (rows : List ℕ) → AreWork (flat_map (offers_of
 rows_work config [] = refl
 rows_work config (row ∷ rows) = append_work (offers_of_row config row) (flat_map (offers_of_row config) rows) (mapped_work (λ (r : ℕ). Offer row r) (each_below config.resolvers) (λ r. refl)) (rows_work config rows)
 
-round_work : (config : Config) (rows : ℕ) → AreWork (round config rows)
+pub round_work : (config : Config) (rows : ℕ) → AreWork (round config rows)
 round_work config rows = append_work (flat_map (offers_of_row config) (each_below rows)) (map (λ (p : ℕ). Finish p) (each_below config.proxies)) (rows_work config (each_below rows)) (mapped_work (λ (p : ℕ). Finish p) (each_below config.proxies) (λ p. refl))
 
 -- ---- what can be done is in it
@@ -65,7 +65,7 @@ finish_there config w p done = by (nat_le config.proxies p) refl _ done
     by true unknown handled done = absurd (cc)
     by false there handled done = leb-false config.proxies p there
 
-in_round : (config : Config) (w : World) (event : Event) → CanBeDone config w event → Has (round config (length w.history)) event
+pub in_round : (config : Config) (w : World) (event : Event) → CanBeDone config w event → Has (round config (length w.history)) event
 in_round config w (Sequence p batch) can = absurd (cc (can.0))
 in_round config w (MoveRange range dest) can = absurd (cc (can.0))
 in_round config w (Offer row r) can =

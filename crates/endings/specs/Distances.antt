@@ -117,6 +117,12 @@ abbrev pub IsSlowest : Config → (rows : ProxyNumber → ℕ) → (p : ProxyNum
 IsSlowest config rows p =
     (p < config.proxies) × ((q : ProxyNumber) → q < config.proxies → rows p ≤ rows q)
 
+-- whatever these numbers are, some proxy has the least
+abbrev pub SomeProxyIsSlowest : Type 0
+SomeProxyIsSlowest =
+    (config : Config) (rows : ProxyNumber → ℕ) → 0 < config.proxies
+    → (p : ProxyNumber) × IsSlowest config rows p
+
 -- a resolver remembers the rows that it has judged, without those that the slowest proxy has reached
 abbrev pub RememberedRowsFollowTheSlowest : Type 0
 RememberedRowsFollowTheSlowest =

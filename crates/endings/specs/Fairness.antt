@@ -111,3 +111,7 @@ FairSchedulesFinishAll =
     (config : Config) (w : World) (schedule : Schedule)
     → IsSound config w → IsFair config w schedule
     → (n : ℕ) × AllFinished config (world_after config w (first_events schedule n))
+
+-- and there is such a schedule from every sound world
+abbrev pub SomeScheduleIsFair : Type 0
+SomeScheduleIsFair = (config : Config) (w : World) → IsSound config w → (schedule : Schedule) × IsFair config w schedule

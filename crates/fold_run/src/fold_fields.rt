@@ -9,13 +9,13 @@ ghost use Rattle.fold_run.specs.declared.script.RawRow.{RawRow as TheRawRow};
 
 use crate::limits::is_within_limits;
 use crate::script::{RawFold, RawRow};
-use json::Reader as TokenReader;
+use script_tokens::Tokens;
 use scripts::{Fields, Streamed, take_into_slot, take_object};
 use std::alloc::Global;
 use system_keys::{Bytes, Items};
 
 impl Streamed for RawFold {
-    fn from_tokens(alloc: Global, reader: &mut TokenReader<'_>, depth: usize) -> Option<RawFold> {
+    fn from_tokens(alloc: Global, reader: &mut Tokens<'_>, depth: usize) -> Option<RawFold> {
         let fields: FoldFields<Items<RawRow>> = take_object(alloc, reader, depth)?;
         let script = RawFold {
             resolvers: fields.resolvers?,
@@ -37,7 +37,7 @@ pub(crate) trait FromFoldRows: Drop {
     /// Returns `None` as `Streamed` does.
     fn take(
         alloc: Global,
-        reader: &mut TokenReader<'_>,
+        reader: &mut Tokens<'_>,
         depth: usize,
         resolvers: Option<u64>,
     ) -> Option<Self>
@@ -51,7 +51,7 @@ impl FromFoldRows for Items<RawRow> {
 
     fn take(
         alloc: Global,
-        reader: &mut TokenReader<'_>,
+        reader: &mut Tokens<'_>,
         depth: usize,
         _resolvers: Option<u64>,
     ) -> Option<Items<RawRow>> {
@@ -72,7 +72,7 @@ pub(crate) struct FoldFields<R: Drop> {
 
 impl<R: FromFoldRows> FoldFields<R> {
     // Takes the rows, if none were taken before.
-    fn take_rows(&mut self, alloc: Global, reader: &mut TokenReader<'_>, depth: usize) -> Option<()>
+    fn take_rows(&mut self, alloc: Global, reader: &mut Tokens<'_>, depth: usize) -> Option<()>
         ensures { IfSome result (λ _. (raws : List TheRawRow) × (made : R)
             × Takes (list_shape row_shape) depth reader.old raws reader.new
             × R.is_from made raws
@@ -102,7 +102,7 @@ impl<R: FromFoldRows> Fields for FoldFields<R> {
     fn take_field(
         &mut self,
         alloc: Global,
-        reader: &mut TokenReader<'_>,
+        reader: &mut Tokens<'_>,
         depth: usize,
         name: &str,
     ) -> Option<()> {

@@ -10,10 +10,10 @@ ghost use Rattle.fold_run.specs.declared.script.RawRow.{RawRow as TheRawRow};
 use crate::fold_fields::FromFoldRows;
 use crate::limits::row_has_verdicts;
 use crate::script::RawRow;
-use json::Reader as TokenReader;
 use metadata::JournalFold;
 use model::{JournalRow, Version};
-use scripts::{Checked, Streamed, take_begin_array};
+use script_tokens::Tokens;
+use scripts::{Checked, Streamed};
 use std::alloc::Global;
 
 /// Rows that were folded, one after another.
@@ -32,11 +32,11 @@ impl FromFoldRows for FoldedRows {
 
     fn take(
         alloc: Global,
-        reader: &mut TokenReader<'_>,
+        reader: &mut Tokens<'_>,
         depth: usize,
         resolvers: Option<u64>,
     ) -> Option<FoldedRows> {
-        if depth == 0 || !take_begin_array(reader) {
+        if depth == 0 || !reader.take_begin_array() {
             return None;
         }
         fold_each(alloc, reader, depth - 1, resolvers?)
@@ -47,7 +47,7 @@ impl FromFoldRows for FoldedRows {
 /// at the first row that is not within the limits or has a fault.
 fn fold_each(
     alloc: Global,
-    reader: &mut TokenReader<'_>,
+    reader: &mut Tokens<'_>,
     depth: usize,
     resolvers: u64,
 ) -> Option<FoldedRows>
@@ -76,12 +76,7 @@ impl FoldedRows {
     }
 
     /// Folds the next row of a list.
-    fn fold_next(
-        self,
-        alloc: Global,
-        reader: &mut TokenReader<'_>,
-        depth: usize,
-    ) -> Option<FoldedRows>
+    fn fold_next(self, alloc: Global, reader: &mut Tokens<'_>, depth: usize) -> Option<FoldedRows>
         ensures { IfSome result (λ next. (raw : TheRawRow)
             × Takes row_shape depth reader.old raw reader.new
             × IsNextFolded raw self next) }
@@ -99,12 +94,7 @@ impl FoldedRows {
     }
 
     /// The next row of a list, if it is within the limits and has no fault.
-    fn take_row(
-        &self,
-        alloc: Global,
-        reader: &mut TokenReader<'_>,
-        depth: usize,
-    ) -> Option<JournalRow>
+    fn take_row(&self, alloc: Global, reader: &mut Tokens<'_>, depth: usize) -> Option<JournalRow>
         ensures { IfSome result (λ row. (raw : TheRawRow)
             × Takes row_shape depth reader.old raw reader.new
             × IsNext raw self.now

@@ -8,14 +8,14 @@ ghost use Rattle.scripts.specs.Streams.{Slot, one};
 ghost use Rattle.fold_run.specs.Shapes.{state_shape};
 
 use crate::script::{RawRow, RawState};
-use json::Reader as TokenReader;
 use model::Verdict;
+use script_tokens::Tokens;
 use scripts::{Fields, RawChange, Streamed, take_into_slot, take_object};
 use std::alloc::Global;
 use system_keys::Items;
 
 impl Streamed for RawState {
-    fn from_tokens(alloc: Global, reader: &mut TokenReader<'_>, depth: usize) -> Option<RawState> {
+    fn from_tokens(alloc: Global, reader: &mut Tokens<'_>, depth: usize) -> Option<RawState> {
         let fields: StateFields = take_object(alloc, reader, depth)?;
         Some(RawState {
             mutations: fields.mutations?,
@@ -26,7 +26,7 @@ impl Streamed for RawState {
 }
 
 impl Streamed for RawRow {
-    fn from_tokens(alloc: Global, reader: &mut TokenReader<'_>, depth: usize) -> Option<RawRow> {
+    fn from_tokens(alloc: Global, reader: &mut Tokens<'_>, depth: usize) -> Option<RawRow> {
         let fields: RowFields = take_object(alloc, reader, depth)?;
         Some(RawRow {
             version: fields.version?,
@@ -60,7 +60,7 @@ impl Fields for StateFields {
     fn take_field(
         &mut self,
         alloc: Global,
-        reader: &mut TokenReader<'_>,
+        reader: &mut Tokens<'_>,
         depth: usize,
         name: &str,
     ) -> Option<()> {
@@ -95,7 +95,7 @@ impl Fields for RowFields {
     fn take_field(
         &mut self,
         alloc: Global,
-        reader: &mut TokenReader<'_>,
+        reader: &mut Tokens<'_>,
         depth: usize,
         name: &str,
     ) -> Option<()> {

@@ -10,9 +10,9 @@ use crate::fold_fields::FoldFields;
 use crate::folded_rows::FoldedRows;
 use crate::script::FoldScript;
 use cluster_lines::print_metadata;
-use json::Reader as TokenReader;
 use metadata::Metadata;
 use model::{JournalRow, RESOLVERS_LIMIT, is_from_one_to};
+use script_tokens::Tokens;
 use scripts::{MadeOfTokens, take_object};
 use std::alloc::Global;
 use system_keys::{Bytes, OutOfMemory};
@@ -55,7 +55,7 @@ impl MadeOfTokens for FoldText {
     ghost is_made_of = { λ made d. IsTextOf d made };
 
     // Where the number of resolvers comes after the rows, it decides nothing.
-    fn make(alloc: Global, reader: &mut TokenReader<'_>, depth: usize) -> Option<FoldText> {
+    fn make(alloc: Global, reader: &mut Tokens<'_>, depth: usize) -> Option<FoldText> {
         let fields: FoldFields<FoldedRows> = take_object(alloc, reader, depth)?;
         let (resolvers, folded, ask) = (fields.resolvers?, fields.rows?, fields.ask?);
         if folded.resolvers != resolvers || !is_from_one_to(RESOLVERS_LIMIT, resolvers) {

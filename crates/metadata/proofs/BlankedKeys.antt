@@ -1,11 +1,9 @@
 -- A loop over keys that blanks those of serverTag entries.
 use Rattle.std.proofs.Common.{◌≡◌, refl, ap, ◌∙◌, ℕ, List, [], ◌∷◌, Bool, true, false, if◌then◌else◌, ◌&&◌, ◌||◌, Option, Some}
-use Rattle.std.specs.Global.{Vec}
 use Rattle.std.specs.BTreeMap.{insert_entry}
 use Rattle.system_keys.specs.Keys.{Key}
 use Rattle.system_keys.specs.Families.{is_kept_key}
 use Rattle.model.specs.Metadata.{Entries, entry_value}
-use Rattle.metadata.specs.MapEntries.{bytes_of_keys}
 use Rattle.metadata.specs.Overwrites.{is_same_key, is_listed}
 use Rattle.metadata.specs.CachedTags.{names_server, IsBlanked}
 use Rattle.metadata.proofs.KeyValues.{key_cmp, same_key, value_put}
@@ -13,9 +11,9 @@ use Rattle.metadata.proofs.KeyValues.{key_cmp, same_key, value_put}
 abbrev pub is_blank_key : Key → Bool
 is_blank_key key = names_server key && is_kept_key key
 
-abbrev pub AreBlanking : (keys : List Key) (left : List (Vec ℕ)) (old now : Entries) → Type 0
+abbrev pub AreBlanking : (keys : List Key) (left : List Key) (old now : Entries) → Type 0
 AreBlanking keys left old now =
-    (key : Key) → (if is_blank_key key && is_listed (bytes_of_keys left) key then Some [] else entry_value now key) ≡ (if is_blank_key key && is_listed keys key then Some [] else entry_value old key)
+    (key : Key) → (if is_blank_key key && is_listed left key then Some [] else entry_value now key) ≡ (if is_blank_key key && is_listed keys key then Some [] else entry_value old key)
 
 one_more : (c s l : Bool) (found : Option (List ℕ)) → (if c && l then Some [] else (if c && s then Some [] else found)) ≡ (if c && (s || l) then Some [] else found)
 one_more true true true found = refl
@@ -23,11 +21,11 @@ one_more true true false found = refl
 one_more true false l found = refl
 one_more false s l found = refl
 
-pub blanking_next : (keys : List Key) (k : Vec ℕ) (left : List (Vec ℕ)) (old before after : Entries) → ((key : Key) → entry_value after key ≡ (if is_blank_key key && is_same_key key k.items then Some [] else entry_value before key))
+pub blanking_next : (keys : List Key) (k : Key) (left : List Key) (old before after : Entries) → ((key : Key) → entry_value after key ≡ (if is_blank_key key && is_same_key key k then Some [] else entry_value before key))
     → AreBlanking keys (k ∷ left) old before → AreBlanking keys left old after
 blanking_next keys k left old before after one so_far = λ key.
-    ap (λ (found : Option (List ℕ)). if is_blank_key key && is_listed (bytes_of_keys left) key then Some [] else found) (one key)
-    ∙ one_more (is_blank_key key) (is_same_key key k.items) (is_listed (bytes_of_keys left) key) (entry_value before key)
+    ap (λ (found : Option (List ℕ)). if is_blank_key key && is_listed left key then Some [] else found) (one key)
+    ∙ one_more (is_blank_key key) (is_same_key key k) (is_listed left key) (entry_value before key)
     ∙ so_far key
 
 none_left : (c : Bool) (found : Option (List ℕ)) → found ≡ (if c && false then Some [] else found)

@@ -1,6 +1,5 @@
 -- Entries without those at some keys: what each key has, how they are removed, and when they are the metadata after a batch.
 use Rattle.std.proofs.Common.{◌≡◌, refl, sym, ap, ◌∙◌, subst, ℕ, List, [], ◌∷◌, Bool, true, false, cond, if◌then◌else◌, not, ◌||◌, filter, Option, Some, None, inl, inr}
-use Rattle.std.specs.Global.{Vec}
 use Rattle.std.specs.Option.{is_some, option_or}
 use Rattle.std.specs.BTreeMap.{is_at}
 use Rattle.std.proofs.lemmas.Map.Entries.{lookup-filter-keys}
@@ -9,7 +8,6 @@ use Rattle.system_keys.specs.Families.{is_kept_key}
 use Rattle.model.specs.Metadata.{Entry, Entries, IsInOrder, AreKept, entry_value}
 use Rattle.model.proofs.Members.{Has, Has-from_Contains, Contains-from_Has, Has-from_filter}
 use Rattle.model.proofs.Metadata.Entries.{filter_in_order}
-use Rattle.metadata.specs.MapEntries.{bytes_of_keys}
 use Rattle.metadata.specs.Overwrites.{is_same_key, is_listed, has_entry, entries_without, IsPutOver}
 use Rattle.metadata.proofs.KeyValues.{key_cmp, same_key, same_itself, same_entries}
 use Rattle.metadata.proofs.KeptInOrder.{AreKeptInOrder}
@@ -35,19 +33,19 @@ without_none keys rows none = ap (λ (hidden : List Key). entries_without hidden
 -- ---- the entries at some keys are removed
 
 -- the keys that are left are still to be removed
-abbrev pub AreRemoved : (keys : List Key) (left : List (Vec ℕ)) (old now : Entries) → Type 0
-AreRemoved keys left old now = (key : Key) → (if is_listed (bytes_of_keys left) key then None else entry_value now key) ≡ (if is_listed keys key then None else entry_value old key)
+abbrev pub AreRemoved : (keys : List Key) (left : List Key) (old now : Entries) → Type 0
+AreRemoved keys left old now = (key : Key) → (if is_listed left key then None else entry_value now key) ≡ (if is_listed keys key then None else entry_value old key)
 
 one_more : (s l : Bool) (found : Option (List ℕ)) → (if l then None else (if s then None else found)) ≡ (if s || l then None else found)
 one_more true true found = refl
 one_more true false found = refl
 one_more false l found = refl
 
-pub removed_next : (keys : List Key) (k : Vec ℕ) (left : List (Vec ℕ)) (old before after : Entries) → ((key : Key) → entry_value after key ≡ (if is_same_key key k.items then None else entry_value before key))
+pub removed_next : (keys : List Key) (k : Key) (left : List Key) (old before after : Entries) → ((key : Key) → entry_value after key ≡ (if is_same_key key k then None else entry_value before key))
     → AreRemoved keys (k ∷ left) old before → AreRemoved keys left old after
 removed_next keys k left old before after one so_far = λ key.
-    ap (λ (found : Option (List ℕ)). if is_listed (bytes_of_keys left) key then None else found) (one key)
-    ∙ one_more (is_same_key key k.items) (is_listed (bytes_of_keys left) key) (entry_value before key)
+    ap (λ (found : Option (List ℕ)). if is_listed left key then None else found) (one key)
+    ∙ one_more (is_same_key key k) (is_listed left key) (entry_value before key)
     ∙ so_far key
 
 pub all_removed : (keys : List Key) (old now : Entries) → IsInOrder old → IsInOrder now → AreRemoved keys [] old now → now ≡ entries_without keys old

@@ -1,8 +1,7 @@
 -- Look-ups that jump over a run of hidden rows. One that goes back from a row of the run goes on with
 -- the rows before the first key of the run, and one that goes forward with the rows after its last key.
 -- Either jump leaves out hidden rows alone, so the rows that are shown stay the same.
-use Rattle.std.proofs.Common.{◌≡◌, refl, sym, ap, ◌∙◌, subst, ℕ, ◌+◌, ◌<◌, ◌≤◌, suc, length, drop, List, [], ◌∷◌, ◌++◌, append_assoc, map, Bool, true, false, cond, not, ◌&&◌, Some, None, filter, inl, inr, is_lt, is_gt, is_le, is_eq, Ordering, Less, Equal, Greater, nat_cmp, nat_eq, length-append, arith}
-use Rattle.std.specs.Global.{Vec}
+use Rattle.std.proofs.Common.{◌≡◌, refl, sym, ap, ◌∙◌, subst, ◌+◌, ◌<◌, ◌≤◌, suc, length, drop, List, [], ◌∷◌, ◌++◌, append_assoc, map, Bool, true, false, cond, not, ◌&&◌, Some, None, filter, inl, inr, is_lt, is_gt, is_le, is_eq, Ordering, Less, Equal, Greater, nat_cmp, nat_eq, length-append, arith}
 use Rattle.std.specs.List.{Contains, last_or, list_all, starts_with}
 use Rattle.std.specs.Ordering.{ordering_reverse, ordering_then}
 use Rattle.std.specs.Cmp.{nat_cmp_total}
@@ -15,13 +14,12 @@ use Rattle.system_keys.specs.Keys.{Key, Range, is_key_below, is_key_up_to}
 use Rattle.system_keys.specs.Families.{key_servers_family, is_in}
 use Rattle.system_keys.proofs.KeyOrder.{below_trans, up_to_trans, up_to_below, not_below_back, not_below_itself, up_to_is}
 use Rattle.model.specs.Metadata.{Entry, Entries, IsInOrder, entry_value, is_key_servers, behind_prefix}
-use Rattle.model.proofs.Members.{Has, Has-from_Contains, Contains-from_Has, Has-map, Has-from_filter, Has-split}
+use Rattle.model.proofs.Members.{Has, Has-from_Contains, Contains-from_Has, Has-from_filter, Has-split}
 use Rattle.model.proofs.Metadata.Entries.{filter_in_order}
-use Rattle.metadata.specs.MapEntries.{entry_from, entries_of, is_serving_up_to, is_serving_inside}
+use Rattle.metadata.specs.MapEntries.{is_serving_up_to, is_serving_inside}
 use Rattle.metadata.specs.Overwrites.{is_same_key, is_listed, has_entry}
-use Rattle.metadata.specs.HiddenRuns.{Run, runs_of, IsHiddenRun, AreHiddenRuns, is_serving_before, is_serving_after}
+use Rattle.metadata.specs.HiddenRuns.{Run, IsHiddenRun, AreHiddenRuns, is_serving_before, is_serving_after}
 use Rattle.metadata.proofs.KeyValues.{key_cmp, same_key, Behind, first_behind, rest_in_order}
-use Rattle.metadata.proofs.MapEntries.{vec_cmp, filtered}
 use Rattle.metadata.proofs.ServingEntries.{is_left, last_left, same_number, not_up_to, up_to_behind, inside_behind}
 
 -- the row is before the key
@@ -111,29 +109,24 @@ both_tests p q (row ∷ rows) = by (p row) (q row) refl (both_tests p q rows)
 -- ---- a jump back over a run
 
 -- the entries of the map are the first of all, and `rest` are the others
-pub record IsFront (es : List (Vec ℕ × List ℕ)) (all : Entries) : Type 0 where
+pub record IsFront (es : Entries) (all : Entries) : Type 0 where
   pub rest : Entries
-  pub parts : entries_of es ++ rest ≡ all
+  pub parts : es ++ rest ≡ all
 
 -- the keyServers rows
 abbrev pub own_rows : Entries → Entries
 own_rows rows = filter is_key_servers rows
 
--- the entries of two parts of a map, one after the other
-entries_append : (es fs : List (Vec ℕ × List ℕ)) → entries_of (es ++ fs) ≡ entries_of es ++ entries_of fs
-entries_append [] fs = refl
-entries_append (e ∷ es) fs = ap (λ (rows : Entries). entry_from e ∷ rows) (entries_append es fs)
-
 -- the last entry of the front may be taken for the first of the rest
-parts_stepped : (front : List (Vec ℕ × List ℕ)) (e : Vec ℕ × List ℕ) (rest all : Entries) → entries_of (front ++ e ∷ []) ++ rest ≡ all → entries_of front ++ (entry_from e ∷ rest) ≡ all
-parts_stepped front e rest all parts = sym (append_assoc (entries_of front) (entry_from e ∷ []) rest) ∙ ap (λ (rows : Entries). rows ++ rest) (sym (entries_append front (e ∷ []))) ∙ parts
+parts_stepped : (front : Entries) (e : Entry) (rest all : Entries) → (front ++ e ∷ []) ++ rest ≡ all → front ++ (e ∷ rest) ≡ all
+parts_stepped front e rest all parts = sym (append_assoc front (e ∷ []) rest) ∙ parts
 
 -- after a step back, what is left is still the first of all
-pub front_stepped : (front : List (Vec ℕ × List ℕ)) (e : Vec ℕ × List ℕ) (all : Entries) → IsFront (front ++ e ∷ []) all → IsFront front all
-front_stepped front e all is = record { rest = entry_from e ∷ is.rest; parts = parts_stepped front e is.rest all is.parts }
+pub front_stepped : (front : Entries) (e : Entry) (all : Entries) → IsFront (front ++ e ∷ []) all → IsFront front all
+front_stepped front e all is = record { rest = e ∷ is.rest; parts = parts_stepped front e is.rest all is.parts }
 
 -- the keyServers rows before a key are the first of all keyServers rows
-front_before : (rows : Entries) (new : List (Vec ℕ × List ℕ)) (key : Key) → IsInOrder rows → entries_of new ≡ filter (is_serving_before key) rows → IsFront new (own_rows rows)
+front_before : (rows : Entries) (new : Entries) (key : Key) → IsInOrder rows → new ≡ filter (is_serving_before key) rows → IsFront new (own_rows rows)
 front_before rows new key s is =
     let some = rows_in_front (λ (k : Key). is_key_below k key) (own_rows rows) (before_of_front key) (filter_in_order is_key_servers rows s) in
     record { rest = some.0; parts = ap (λ (front : Entries). front ++ some.0) (is ∙ both_tests is_key_servers (is_before key) rows) ∙ some.1 }
@@ -147,54 +140,48 @@ length_filter p (row ∷ rows) = by (p row) (length_filter p rows)
     by true h = omega arith
     by false h = omega arith
 
--- a map has as many entries as the list of them in the model
-length_entries : (es : List (Vec ℕ × List ℕ)) → length (entries_of es) ≡ length es
-length_entries [] = refl
-length_entries (e ∷ es) = ap suc (length_entries es)
-
 -- A jump back from the rows `front` to the rows `new`: the last row that is shown is the same, `new`
 -- are the first of all keyServers rows, and they are no more than `front`.
-pub record IsJump (hidden : List Key) (rows : Entries) (front new : List (Vec ℕ × List ℕ)) : Type 0 where
+pub record IsJump (hidden : List Key) (rows : Entries) (front new : Entries) : Type 0 where
   pub left : last_left None hidden new ≡ last_left None hidden front
   pub front_is : IsFront new (own_rows rows)
   pub fewer : length new ≤ length front
 
 -- If the last row, `e`, is in a hidden run, then from the rows in front of it to those before the
 -- first key of the run is such a jump.
-pub jump_to : (hidden : List Key) (rows : Entries) (front new : List (Vec ℕ × List ℕ)) (e : Vec ℕ × List ℕ) (run : Run) → IsInOrder rows → IsFront (front ++ e ∷ []) (own_rows rows)
-    → ((row : Entry) → Has (entries_of front) row → entry_value rows row.0 ≡ Some row.1) → IsHiddenRun hidden rows run → is_key_below e.0.items run.0 ≡ false → is_key_below run.1 e.0.items ≡ false
-    → entries_of new ≡ filter (is_serving_before run.0) rows → IsJump hidden rows front new
+pub jump_to : (hidden : List Key) (rows : Entries) (front new : Entries) (e : Entry) (run : Run) → IsInOrder rows → IsFront (front ++ e ∷ []) (own_rows rows)
+    → ((row : Entry) → Has front row → entry_value rows row.0 ≡ Some row.1) → IsHiddenRun hidden rows run → is_key_below e.0 run.0 ≡ false → is_key_below run.1 e.0 ≡ false
+    → new ≡ filter (is_serving_before run.0) rows → IsJump hidden rows front new
 jump_to hidden rows front new e run s is there hides begins reaches new_is = record {
   left = ap (λ (list : Entries). last_or None (map behind_prefix list)) same;
   front_is = front_before rows new run.0 s new_is;
   fewer =
-      let short : length (entries_of new) ≤ length (entries_of front) = subst (λ (list : Entries). length list ≤ length (entries_of front)) (sym new_front) (length_filter (is_before run.0) (entries_of front)) in
-      omega (arith, short, length_entries new, length_entries front);
+      subst (λ (list : Entries). length list ≤ length front) (sym new_front) (length_filter (is_before run.0) front);
 }
   where
-    all_is : entries_of front ++ (entry_from e ∷ is.rest) ≡ own_rows rows
+    all_is : front ++ (e ∷ is.rest) ≡ own_rows rows
     all_is = parts_stepped front e is.rest (own_rows rows) is.parts
 
-    in_order : IsInOrder (entries_of front ++ (entry_from e ∷ is.rest))
+    in_order : IsInOrder (front ++ (e ∷ is.rest))
     in_order = subst IsInOrder (sym all_is) (filter_in_order is_key_servers rows s)
 
-    new_front : entries_of new ≡ filter (is_before run.0) (entries_of front)
+    new_front : new ≡ filter (is_before run.0) front
     new_front =
         new_is ∙ both_tests is_key_servers (is_before run.0) rows
         ∙ ap (filter (is_before run.0)) (sym all_is)
-        ∙ before_in_front run.0 (entries_of front) (entry_from e) is.rest begins in_order
+        ∙ before_in_front run.0 front e is.rest begins in_order
 
-    hidden_unless : (row : Entry) → Has (entries_of front) row → is_key_below row.0 run.0 ≡ false → not (is_listed hidden row.0) ≡ false
+    hidden_unless : (row : Entry) → Has front row → is_key_below row.0 run.0 ≡ false → not (is_listed hidden row.0) ≡ false
     hidden_unless row has out =
-        let below : is_key_below row.0 e.0.items ≡ true = front_below (entries_of front) (entry_from e) is.rest row in_order has in
-        let within : is_key_below run.1 row.0 ≡ false = up_to_trans row.0 e.0.items run.1 (not_below_back row.0 e.0.items below) reaches in
+        let below : is_key_below row.0 e.0 ≡ true = front_below front e is.rest row in_order has in
+        let within : is_key_below run.1 row.0 ≡ false = up_to_trans row.0 e.0 run.1 (not_below_back row.0 e.0 below) reaches in
         ap not (hides.hides row.0 (ap is_some (there row has)) out within)
 
-    same : filter (is_left hidden) (entries_of new) ≡ filter (is_left hidden) (entries_of front)
-    same = ap (filter (is_left hidden)) new_front ∙ left_of_before (is_left hidden) (is_before run.0) (entries_of front) hidden_unless
+    same : filter (is_left hidden) new ≡ filter (is_left hidden) front
+    same = ap (filter (is_left hidden)) new_front ∙ left_of_before (is_left hidden) (is_before run.0) front hidden_unless
 
 -- with the row `e` that was looked at, a jump leaves fewer rows than there were
-pub jump_fewer : (hidden : List Key) (rows : Entries) (front new left : List (Vec ℕ × List ℕ)) (e : Vec ℕ × List ℕ) → IsJump hidden rows front new → left ≡ front ++ e ∷ [] → length new < length left
+pub jump_fewer : (hidden : List Key) (rows : Entries) (front new left : Entries) (e : Entry) → IsJump hidden rows front new → left ≡ front ++ e ∷ [] → length new < length left
 jump_fewer hidden rows front new left e jump steps =
     let longer : length left ≡ length front + 1 = ap length steps ∙ length-append front (e ∷ []) in
     omega (arith, longer, jump.fewer)
@@ -206,8 +193,8 @@ abbrev are_listed : List Key → Entries → Bool
 are_listed hidden rows = list_all (λ (row : Entry). is_listed hidden row.0) rows
 
 -- a hidden entry may be left out of a look at all
-pub listed_next : (hidden : List Key) (e : Vec ℕ × List ℕ) (es left : List (Vec ℕ × List ℕ)) (total : Bool) → left ≡ e ∷ es → is_listed hidden e.0.items ≡ true → are_listed hidden (entries_of left) ≡ total → are_listed hidden (entries_of es) ≡ total
-listed_next hidden e es left total steps hides so_far = ap (λ (t : Bool). t && are_listed hidden (entries_of es)) (sym hides) ∙ ap (λ (list : List (Vec ℕ × List ℕ)). are_listed hidden (entries_of list)) (sym steps) ∙ so_far
+pub listed_next : (hidden : List Key) (e : Entry) (es left : Entries) (total : Bool) → left ≡ e ∷ es → is_listed hidden e.0 ≡ true → are_listed hidden left ≡ total → are_listed hidden es ≡ total
+listed_next hidden e es left total steps hides so_far = ap (λ (t : Bool). t && are_listed hidden es) (sym hides) ∙ ap (λ (list : Entries). are_listed hidden list) (sym steps) ∙ so_far
 
 -- both parts of a conjunction are true if it is
 both_true : (a b : Bool) → (a && b) ≡ true → (a ≡ true) × (b ≡ true)
@@ -240,8 +227,8 @@ hidden_run hidden rows first last own all = record {
 }
 
 -- what a map lists from one key up to another, both with them
-pub between_both : (es : List (Vec ℕ × List ℕ)) (first last : Vec ℕ) → entries_of (entries_between vec_cmp (Included first) (Included last) es) ≡ filter (λ (row : Entry). is_from_up_to first.items last.items row.0) (entries_of es)
-between_both es first last = filtered (λ (row : Entry). is_key_up_to first.items row.0 && not (is_key_below last.items row.0)) es
+pub between_both : (es : Entries) (first last : Key) → (entries_between key_cmp (Included first) (Included last) es) ≡ filter (λ (row : Entry). is_from_up_to first last row.0) es
+between_both es first last = refl
 
 -- a comparison turned round is greater if it was less
 pub forward : (r : Ordering) → is_gt (ordering_reverse r) ≡ is_lt r
@@ -297,18 +284,17 @@ pub least_first : (least key : Key) → least ≡ prefix ++ [] → is_in key_ser
 least_first least key low own = ap (λ (k : Key). is_gt (key_cmp k key)) low ∙ ap (λ (k : Key). is_gt (key_cmp prefix k)) (begun prefix key own) ∙ prefix_first prefix (behind_of key)
 
 -- what a map lists from the prefix up to a keyServers key, without it: the keyServers rows before it
-pub between_before : (es : List (Vec ℕ × List ℕ)) (least key : Vec ℕ) → least.items ≡ prefix ++ [] → is_in key_servers_family key.items ≡ true
-    → entries_of (entries_between vec_cmp (Included least) (Excluded key) es) ≡ filter (is_serving_before key.items) (entries_of es)
+pub between_before : (es : Entries) (least key : Key) → least ≡ prefix ++ [] → is_in key_servers_family key ≡ true
+    → (entries_between key_cmp (Included least) (Excluded key) es) ≡ filter (is_serving_before key) es
 between_before es least key low own =
-    let same : (row : Entry) → (is_key_up_to least.items row.0 && not (is_key_up_to key.items row.0)) ≡ is_serving_before key.items row =
+    let same : (row : Entry) → (is_key_up_to least row.0 && not (is_key_up_to key row.0)) ≡ is_serving_before key row =
     λ row.
-    ap (λ (k : Key). is_key_up_to k row.0 && not (is_key_up_to key.items row.0)) low
-    ∙ ap (λ (k : Key). is_key_up_to prefix row.0 && not (is_key_up_to k row.0)) (begun prefix key.items own)
-    ∙ before_behind prefix (behind_of key.items) row.0
-    ∙ ap (λ (k : Key). is_key_servers row && not (is_key_up_to k row.0)) (sym (begun prefix key.items own))
-    ∙ ap (λ (t : Bool). is_key_servers row && t) (not_up_to key.items row.0) in
-    filtered (λ (row : Entry). is_key_up_to least.items row.0 && not (is_key_up_to key.items row.0)) es
-    ∙ ap (λ (p : Entry → Bool). filter p (entries_of es)) (λ i row. same row i)
+    ap (λ (k : Key). is_key_up_to k row.0 && not (is_key_up_to key row.0)) low
+    ∙ ap (λ (k : Key). is_key_up_to prefix row.0 && not (is_key_up_to k row.0)) (begun prefix key own)
+    ∙ before_behind prefix (behind_of key) row.0
+    ∙ ap (λ (k : Key). is_key_servers row && not (is_key_up_to k row.0)) (sym (begun prefix key own))
+    ∙ ap (λ (t : Bool). is_key_servers row && t) (not_up_to key row.0) in
+    ap (λ (p : Entry → Bool). filter p es) (λ i row. same row i)
 
 -- ---- the rows that may serve a key are the first of all keyServers rows
 
@@ -335,7 +321,7 @@ up_to_of_front key = record { closed = λ a b h out. ap not (below_trans key a b
     turned false e = absurd (cc)
 
 -- the keyServers rows at or before a key are the first of all keyServers rows
-pub front_up_to : (rows : Entries) (es : List (Vec ℕ × List ℕ)) (key : Key) → IsInOrder rows → entries_of es ≡ filter (is_serving_up_to key) rows → IsFront es (own_rows rows)
+pub front_up_to : (rows : Entries) (es : Entries) (key : Key) → IsInOrder rows → es ≡ filter (is_serving_up_to key) rows → IsFront es (own_rows rows)
 front_up_to rows es key s is =
     let some = rows_in_front (λ (k : Key). not (is_key_below (prefix ++ key) k)) (own_rows rows) (up_to_of_front (prefix ++ key)) (filter_in_order is_key_servers rows s) in
     let same : (row : Entry) → is_serving_up_to key row ≡ (is_key_servers row && not (is_key_below (prefix ++ key) row.0)) =
@@ -360,10 +346,10 @@ one_run hidden rows runs run all has = at runs all (Has-from_Contains runs run h
     at (first ∷ some) each (inr there) = at some each.1 there
 
 -- the last entry of a part of the map of runs is one of the runs
-pub run_listed : (p : Vec ℕ × Vec ℕ → Bool) (es part front : List (Vec ℕ × Vec ℕ)) (e : Vec ℕ × Vec ℕ) → part ≡ filter p es → part ≡ front ++ e ∷ [] → Contains (runs_of es) (e.0.items, e.1.items)
+pub run_listed : (p : Run → Bool) (es part front : List Run) (e : Run) → part ≡ filter p es → part ≡ front ++ e ∷ [] → Contains es e
 run_listed p es part front e is steps =
-    Contains-from_Has (runs_of es) (e.0.items, e.1.items)
-    (Has-map (λ (run : Vec ℕ × Vec ℕ). (run.0.items, run.1.items)) es e (Has-from_filter p es e (subst (λ (list : List (Vec ℕ × Vec ℕ)). Has list e) (sym steps ∙ is) (Has-split front [] e))).0)
+    Contains-from_Has es e
+    (Has-from_filter p es e (subst (λ (list : List Run). Has list e) (sym steps ∙ is) (Has-split front [] e))).0
 
 -- ---- rows after a key
 
@@ -414,19 +400,19 @@ behind_has key (first ∷ rows) row all (inr there) = behind_has key rows row al
 -- ---- a jump forward over a run
 
 -- the entries of the map are the last of all, and `front` are those before them
-pub record IsBack (es : List (Vec ℕ × List ℕ)) (all : Entries) : Type 0 where
+pub record IsBack (es : Entries) (all : Entries) : Type 0 where
   pub front : Entries
-  pub parts : front ++ entries_of es ≡ all
+  pub parts : front ++ es ≡ all
 
 -- before the first step all entries are left
-pub whole_back : (es : List (Vec ℕ × List ℕ)) (all : Entries) → entries_of es ≡ all → IsBack es all
+pub whole_back : (es : Entries) (all : Entries) → es ≡ all → IsBack es all
 whole_back es all is = record { front = []; parts = is }
 
 -- after a step, what is left is still the last of all
-pub back_stepped : (e : Vec ℕ × List ℕ) (es left : List (Vec ℕ × List ℕ)) (all : Entries) → left ≡ e ∷ es → IsBack left all → IsBack es all
+pub back_stepped : (e : Entry) (es left : Entries) (all : Entries) → left ≡ e ∷ es → IsBack left all → IsBack es all
 back_stepped e es left all steps is = record {
-  front = is.front ++ entry_from e ∷ [];
-  parts = append_assoc is.front (entry_from e ∷ []) (entries_of es) ∙ ap (λ (list : List (Vec ℕ × List ℕ)). is.front ++ entries_of list) (sym steps) ∙ is.parts;
+  front = is.front ++ e ∷ [];
+  parts = append_assoc is.front (e ∷ []) es ∙ ap (λ (list : Entries). is.front ++ list) (sym steps) ∙ is.parts;
 }
 
 -- the keyServers rows inside the range
@@ -435,22 +421,21 @@ inside_rows range rows = filter (is_serving_inside range) rows
 
 -- A jump forward from the rows `rest` to the rows `new`: the rows that are shown are the same, `new`
 -- are the last of the rows inside the range, and they are no more than `rest`.
-pub record IsJumpOn (hidden : List Key) (rows : Entries) (range : Range) (rest new : List (Vec ℕ × List ℕ)) : Type 0 where
-  pub left : filter (is_left hidden) (entries_of new) ≡ filter (is_left hidden) (entries_of rest)
+pub record IsJumpOn (hidden : List Key) (rows : Entries) (range : Range) (rest new : Entries) : Type 0 where
+  pub left : filter (is_left hidden) new ≡ filter (is_left hidden) rest
   pub back_is : IsBack new (inside_rows range rows)
   pub fewer : length new ≤ length rest
 
 -- If the first row, `e`, is in a hidden run, then from the rows after it to those after the last key of
 -- the run is such a jump.
-pub jump_on : (hidden : List Key) (rows : Entries) (range : Range) (rest new left : List (Vec ℕ × List ℕ)) (e : Vec ℕ × List ℕ) (run : Run) → IsInOrder rows → left ≡ e ∷ rest → IsBack left (inside_rows range rows)
-    → ((row : Entry) → Has (entries_of rest) row → entry_value rows row.0 ≡ Some row.1) → IsHiddenRun hidden rows run → is_key_below e.0.items run.0 ≡ false → is_key_below run.1 e.0.items ≡ false
-    → entries_of new ≡ filter (is_serving_after run.1 range) rows → IsJumpOn hidden rows range rest new
+pub jump_on : (hidden : List Key) (rows : Entries) (range : Range) (rest new left : Entries) (e : Entry) (run : Run) → IsInOrder rows → left ≡ e ∷ rest → IsBack left (inside_rows range rows)
+    → ((row : Entry) → Has rest row → entry_value rows row.0 ≡ Some row.1) → IsHiddenRun hidden rows run → is_key_below e.0 run.0 ≡ false → is_key_below run.1 e.0 ≡ false
+    → new ≡ filter (is_serving_after run.1 range) rows → IsJumpOn hidden rows range rest new
 jump_on hidden rows range rest new left e run s steps is there hides begins reaches new_is = record {
-  left = ap (filter (is_left hidden)) new_rest ∙ left_of_before (is_left hidden) (is_after run.1) (entries_of rest) hidden_unless;
+  left = ap (filter (is_left hidden)) new_rest ∙ left_of_before (is_left hidden) (is_after run.1) rest hidden_unless;
   back_is = record { front = some.0; parts = ap (λ (list : Entries). some.0 ++ list) new_all ∙ some.1 };
   fewer =
-      let short : length (entries_of new) ≤ length (entries_of rest) = subst (λ (list : Entries). length list ≤ length (entries_of rest)) (sym new_rest) (length_filter (is_after run.1) (entries_of rest)) in
-      omega (arith, short, length_entries new, length_entries rest);
+      subst (λ (list : Entries). length list ≤ length rest) (sym new_rest) (length_filter (is_after run.1) rest);
 }
   where
     inside : Entries
@@ -462,38 +447,38 @@ jump_on hidden rows range rest new left e run s steps is there hides begins reac
     some : (front : Entries) × (front ++ filter (is_after run.1) inside ≡ inside)
     some = rows_after run.1 inside ordered
 
-    new_all : entries_of new ≡ filter (is_after run.1) inside
+    new_all : new ≡ filter (is_after run.1) inside
     new_all = new_is ∙ both_tests (is_serving_inside range) (is_after run.1) rows
 
-    all_is : is.front ++ entry_from e ∷ entries_of rest ≡ inside
-    all_is = ap (λ (list : List (Vec ℕ × List ℕ)). is.front ++ entries_of list) (sym steps) ∙ is.parts
+    all_is : is.front ++ e ∷ rest ≡ inside
+    all_is = ap (λ (list : Entries). is.front ++ list) (sym steps) ∙ is.parts
 
-    in_order : IsInOrder (is.front ++ entry_from e ∷ entries_of rest)
+    in_order : IsInOrder (is.front ++ e ∷ rest)
     in_order = subst IsInOrder (sym all_is) ordered
 
-    new_rest : entries_of new ≡ filter (is_after run.1) (entries_of rest)
-    new_rest = new_all ∙ ap (filter (is_after run.1)) (sym all_is) ∙ after_in_back run.1 is.front (entry_from e) (entries_of rest) in_order reaches
+    new_rest : new ≡ filter (is_after run.1) rest
+    new_rest = new_all ∙ ap (filter (is_after run.1)) (sym all_is) ∙ after_in_back run.1 is.front e rest in_order reaches
 
-    hidden_unless : (row : Entry) → Has (entries_of rest) row → is_key_below run.1 row.0 ≡ false → not (is_listed hidden row.0) ≡ false
+    hidden_unless : (row : Entry) → Has rest row → is_key_below run.1 row.0 ≡ false → not (is_listed hidden row.0) ≡ false
     hidden_unless row has out =
-        let above : is_key_below e.0.items row.0 ≡ true = behind_has e.0.items (entries_of rest) row (first_behind (entry_from e) (entries_of rest) (back_in_order is.front (entry_from e ∷ entries_of rest) in_order)) has in
-        let within : is_key_below row.0 run.0 ≡ false = up_to_trans run.0 e.0.items row.0 begins (not_below_back e.0.items row.0 above) in
+        let above : is_key_below e.0 row.0 ≡ true = behind_has e.0 rest row (first_behind e rest (back_in_order is.front (e ∷ rest) in_order)) has in
+        let within : is_key_below row.0 run.0 ≡ false = up_to_trans run.0 e.0 row.0 begins (not_below_back e.0 row.0 above) in
         ap not (hides.hides row.0 (ap is_some (there row has)) within out)
 
 -- with the row `e` that was looked at, a jump leaves fewer rows than there were
-pub jump_on_fewer : (hidden : List Key) (rows : Entries) (range : Range) (rest new left : List (Vec ℕ × List ℕ)) (e : Vec ℕ × List ℕ) → IsJumpOn hidden rows range rest new → left ≡ e ∷ rest → length new < length left
+pub jump_on_fewer : (hidden : List Key) (rows : Entries) (range : Range) (rest new left : Entries) (e : Entry) → IsJumpOn hidden rows range rest new → left ≡ e ∷ rest → length new < length left
 jump_on_fewer hidden rows range rest new left e jump steps =
     let longer : length left ≡ suc (length rest) = ap length steps in
     omega (arith, longer, jump.fewer)
 
 -- if an entry inside a range is in a run, then the last key of the run is not before the range
-pub run_inside : (rows : Entries) (range : Range) (e : Vec ℕ × List ℕ) (es left : List (Vec ℕ × List ℕ)) (last : Key) → left ≡ e ∷ es → IsBack left (inside_rows range rows) → is_key_below last e.0.items ≡ false → is_key_below last (prefix ++ range.begin) ≡ false
+pub run_inside : (rows : Entries) (range : Range) (e : Entry) (es left : Entries) (last : Key) → left ≡ e ∷ es → IsBack left (inside_rows range rows) → is_key_below last e.0 ≡ false → is_key_below last (prefix ++ range.begin) ≡ false
 run_inside rows range e es left last steps is reaches =
-    let parts : is.front ++ entry_from e ∷ entries_of es ≡ inside_rows range rows = ap (λ (list : List (Vec ℕ × List ℕ)). is.front ++ entries_of list) (sym steps) ∙ is.parts in
-    let inside : is_serving_inside range (entry_from e) ≡ true = (Has-from_filter (is_serving_inside range) rows (entry_from e) (subst (λ (list : Entries). Has list (entry_from e)) parts (Has-split is.front (entries_of es) (entry_from e)))).1 in
-    let after : is_key_below (prefix ++ range.begin) e.0.items ≡ true =
-    (both_true (is_key_below (prefix ++ range.begin) e.0.items) (not (is_key_up_to (prefix ++ range.end) e.0.items)) (inside_behind prefix range.begin range.end e.0.items ∙ inside)).0 in
-    up_to_trans (prefix ++ range.begin) e.0.items last (not_below_back (prefix ++ range.begin) e.0.items after) reaches
+    let parts : is.front ++ e ∷ es ≡ inside_rows range rows = ap (λ (list : Entries). is.front ++ list) (sym steps) ∙ is.parts in
+    let inside : is_serving_inside range e ≡ true = (Has-from_filter (is_serving_inside range) rows e (subst (λ (list : Entries). Has list e) parts (Has-split is.front es e))).1 in
+    let after : is_key_below (prefix ++ range.begin) e.0 ≡ true =
+    (both_true (is_key_below (prefix ++ range.begin) e.0) (not (is_key_up_to (prefix ++ range.end) e.0)) (inside_behind prefix range.begin range.end e.0 ∙ inside)).0 in
+    up_to_trans (prefix ++ range.begin) e.0 last (not_below_back (prefix ++ range.begin) e.0 after) reaches
 
 -- ---- what a map lists after a key and inside a range
 
@@ -521,26 +506,24 @@ past_end false true false h = refl
 past_end false false k h = refl
 
 -- what a map lists after the key and before the end are the rows inside the range after the key
-pub between_after : (es : List (Vec ℕ × List ℕ)) (key end : Vec ℕ) (range : Range) → end.items ≡ prefix ++ range.end → is_key_below key.items (prefix ++ range.begin) ≡ false
-    → entries_of (entries_between vec_cmp (Excluded key) (Excluded end) es) ≡ filter (is_serving_after key.items range) (entries_of es)
+pub between_after : (es : Entries) (key end : Key) (range : Range) → end ≡ prefix ++ range.end → is_key_below key (prefix ++ range.begin) ≡ false
+    → (entries_between key_cmp (Excluded key) (Excluded end) es) ≡ filter (is_serving_after key range) es
 between_after es key end range high late =
-    let same : (row : Entry) → (is_key_below key.items row.0 && not (is_key_up_to end.items row.0)) ≡ is_serving_after key.items range row =
+    let same : (row : Entry) → (is_key_below key row.0 && not (is_key_up_to end row.0)) ≡ is_serving_after key range row =
     λ row.
-    ap (λ (k : Key). is_key_below key.items row.0 && not (is_key_up_to k row.0)) high
-    ∙ after_begin (is_key_below key.items row.0) (is_key_below (prefix ++ range.begin) row.0) (not (is_key_up_to (prefix ++ range.end) row.0)) (up_to_below (prefix ++ range.begin) key.items row.0 late)
-    ∙ ap (λ (t : Bool). t && is_key_below key.items row.0) (inside_behind prefix range.begin range.end row.0) in
-    filtered (λ (row : Entry). is_key_below key.items row.0 && not (is_key_up_to end.items row.0)) es
-    ∙ ap (λ (p : Entry → Bool). filter p (entries_of es)) (λ i row. same row i)
+    ap (λ (k : Key). is_key_below key row.0 && not (is_key_up_to k row.0)) high
+    ∙ after_begin (is_key_below key row.0) (is_key_below (prefix ++ range.begin) row.0) (not (is_key_up_to (prefix ++ range.end) row.0)) (up_to_below (prefix ++ range.begin) key row.0 late)
+    ∙ ap (λ (t : Bool). t && is_key_below key row.0) (inside_behind prefix range.begin range.end row.0) in
+    ap (λ (p : Entry → Bool). filter p es) (λ i row. same row i)
 
 -- if the key is not before the end, the map lists nothing, and no row inside the range is after the key
-pub none_after : (es : List (Vec ℕ × List ℕ)) (key end : Vec ℕ) (range : Range) → end.items ≡ prefix ++ range.end → is_key_below key.items end.items ≡ false
-    → entries_of (entries_between vec_cmp (Included end) (Excluded end) es) ≡ filter (is_serving_after key.items range) (entries_of es)
+pub none_after : (es : Entries) (key end : Key) (range : Range) → end ≡ prefix ++ range.end → is_key_below key end ≡ false
+    → (entries_between key_cmp (Included end) (Excluded end) es) ≡ filter (is_serving_after key range) es
 none_after es key end range high past =
-    let same : (row : Entry) → (is_key_up_to end.items row.0 && not (is_key_up_to end.items row.0)) ≡ is_serving_after key.items range row =
+    let same : (row : Entry) → (is_key_up_to end row.0 && not (is_key_up_to end row.0)) ≡ is_serving_after key range row =
     λ row.
-    past_end (is_key_up_to end.items row.0) (is_key_below (prefix ++ range.begin) row.0) (is_key_below key.items row.0)
-    (λ h. up_to_is end.items row.0 ∙ ap not (up_to_trans end.items key.items row.0 past (not_below_back key.items row.0 h)))
-    ∙ ap (λ (k : Key). (is_key_below (prefix ++ range.begin) row.0 && not (is_key_up_to k row.0)) && is_key_below key.items row.0) high
-    ∙ ap (λ (t : Bool). t && is_key_below key.items row.0) (inside_behind prefix range.begin range.end row.0) in
-    filtered (λ (row : Entry). is_key_up_to end.items row.0 && not (is_key_up_to end.items row.0)) es
-    ∙ ap (λ (p : Entry → Bool). filter p (entries_of es)) (λ i row. same row i)
+    past_end (is_key_up_to end row.0) (is_key_below (prefix ++ range.begin) row.0) (is_key_below key row.0)
+    (λ h. up_to_is end row.0 ∙ ap not (up_to_trans end key row.0 past (not_below_back key row.0 h)))
+    ∙ ap (λ (k : Key). (is_key_below (prefix ++ range.begin) row.0 && not (is_key_up_to k row.0)) && is_key_below key row.0) high
+    ∙ ap (λ (t : Bool). t && is_key_below key row.0) (inside_behind prefix range.begin range.end row.0) in
+    ap (λ (p : Entry → Bool). filter p es) (λ i row. same row i)

@@ -1,17 +1,13 @@
 -- The tags that are looked up are those of the rows that serve a key, or that a range holds.
-use Rattle.std.proofs.Common.{◌≡◌, refl, sym, ap, ◌∙◌, subst, ℕ, ◌-◌, length, take, drop, length-drop, List, [], ◌∷◌, ◌++◌, append-nil, flat_map, Bool, true, false, cond, Option, Some, None, option_map, option_to_list, filter, inl, inr}
-use Rattle.std.specs.Global.{Vec}
+use Rattle.std.proofs.Common.{◌≡◌, refl, sym, ap, ◌∙◌, subst, ℕ, ◌-◌, length, take, drop, length-drop, List, [], ◌∷◌, append-nil, flat_map, Bool, true, false, cond, Option, Some, None, option_map, option_to_list, filter, inl, inr}
 use Rattle.std.proofs.Math.Seq.{take-length}
 use Rattle.system_keys.specs.declared.tag.Tag.{Tag}
 use Rattle.system_keys.specs.Keys.{Key}
-use Rattle.system_keys.specs.Families.{key_servers_family, is_in}
 use Rattle.model.specs.Metadata.{Entry, Entries, IsInOrder, entry_value, key_servers_entries, is_key_servers, behind_prefix, serving_entry, entry_tags, server_tags, sorted_tags, tags, tags_of_key}
-use Rattle.model.proofs.Members.{Has, Has-from_filter, Has-filter, Has-map, Has-append_left}
+use Rattle.model.proofs.Members.{Has, Has-from_filter, Has-filter, Has-map}
 use Rattle.model.specs.declared.routing.Route.{Route}
 use Rattle.std.specs.Prelude.{slice_get}
 use Rattle.metadata.proofs.RouteEntries.{same_route}
-use Rattle.metadata.specs.OwnRoutes.{own_routes}
-use Rattle.metadata.specs.MapEntries.{entry_from, entries_of}
 use Rattle.metadata.specs.Overwrites.{is_same_key}
 use Rattle.metadata.specs.CachedTags.{tags_by}
 use Rattle.metadata.proofs.KeyValues.{same_key, none_behind, first_behind, rest_in_order, first_value}
@@ -31,18 +27,11 @@ value_of (r ∷ rows) row s (inr there) = by (is_same_key row.0 r.0) refl (value
     by false other value = value
 
 -- each entry of the map is one of the metadata
-abbrev pub AreRows : (rows : Entries) (es : List (Vec ℕ × List ℕ)) → Type 0
-AreRows rows es = (entry : Entry) → Has (entries_of es) entry → entry_value rows entry.0 ≡ Some entry.1
+abbrev pub AreRows : (rows : Entries) (es : Entries) → Type 0
+AreRows rows es = (entry : Entry) → Has es entry → entry_value rows entry.0 ≡ Some entry.1
 
-pub rows_passing : (rows : Entries) (p : Entry → Bool) (es : List (Vec ℕ × List ℕ)) → IsInOrder rows → entries_of es ≡ filter p rows → AreRows rows es
+pub rows_passing : (rows : Entries) (p : Entry → Bool) (es : Entries) → IsInOrder rows → es ≡ filter p rows → AreRows rows es
 rows_passing rows p es s is = λ entry has. value_of rows entry s (Has-from_filter p rows entry (subst (λ (found : Entries). Has found entry) is has)).0
-
-pub both_of : (es fs : List (Vec ℕ × List ℕ)) → entries_of (es ++ fs) ≡ entries_of es ++ entries_of fs
-both_of [] fs = refl
-both_of (e ∷ es) fs = ap (λ (rest : Entries). entry_from e ∷ rest) (both_of es fs)
-
-pub has_front : (es fs : List (Vec ℕ × List ℕ)) (entry : Entry) → Has (entries_of es) entry → Has (entries_of (es ++ fs)) entry
-has_front es fs entry has = subst (λ (found : Entries). Has found entry) (sym (both_of es fs)) (Has-append_left (entries_of es) (entries_of fs) entry has)
 
 -- ---- the tags of a change
 
@@ -74,7 +63,7 @@ row_added rows before row = ap (added before) (own_tags rows row) ∙ resorted b
 
 -- ---- one entry after another
 
-pub rows_rest : (rows : Entries) (e : Vec ℕ × List ℕ) (es left : List (Vec ℕ × List ℕ)) → left ≡ e ∷ es → AreRows rows left → AreRows rows es
+pub rows_rest : (rows : Entries) (e : Entry) (es left : Entries) → left ≡ e ∷ es → AreRows rows left → AreRows rows es
 rows_rest rows e es left is all = λ entry has. subst (AreRows rows) is all entry (inr has)
 
 -- ---- the row at a place
@@ -102,14 +91,6 @@ pub row_at : (row : Entry) (rest : Entries) (before : ℕ) (total : Option Entry
 row_at row rest before total own first is =
     let here : slice_get (key_servers_entries (row ∷ rest)) 0 ≡ Some (behind_prefix row) = rw own refl in
     sym here ∙ ap (slice_get (key_servers_entries (row ∷ rest))) (sym first) ∙ is
-
--- the route that is added is the own route of the entry
-pub route_added : (all : Entries) (key : Key) (value : List ℕ) (found : List Tag) (route : Route) → is_in key_servers_family key ≡ true → found ≡ tags_by (entry_value all) value
-    → (let own : Route = record { key = drop (length key_servers_family.prefix) key; tags = found } in route ≡ own) → route ∷ [] ≡ own_routes all ((key, value) ∷ [])
-route_added all key value found route own kept is =
-    let tags_is : found ≡ sorted_tags (entry_tags all (behind_prefix (key, value))) = kept ∙ own_tags all (behind_prefix (key, value)) in
-    let whole : Route → List Route = λ r. r ∷ [] in
-    rw own (ap whole (is ∙ ap (λ (list : List Tag). let r : Route = record { key = drop (length key_servers_family.prefix) key; tags = list } in r) tags_is))
 
 -- a key behind a prefix, to its end
 pub to_the_end : (n : ℕ) (xs : List ℕ) → take (length xs - n) (drop n xs) ≡ drop n xs

@@ -1,7 +1,6 @@
 -- Which keys a set has, after one more and after several.
 use Rattle.std.proofs.Common.{◌≡◌, refl, sym, ap, ◌∙◌, ℕ, length, List, [], ◌∷◌, ◌++◌, filter, Bool, true, false, cond, not, ◌&&◌, ◌||◌, Option, Some, None, is_eq, Ordering, Less, Equal, Greater, nat_cmp}
-use Rattle.std.specs.Global.{Vec}
-use Rattle.std.specs.List.{AllByRecursion, list_any}
+use Rattle.std.specs.List.{AllByRecursion}
 use Rattle.std.specs.List.Sorted.{IsStrictlySortedBy}
 use Rattle.std.specs.Option.{is_some}
 use Rattle.std.specs.Set.{remove_key}
@@ -11,16 +10,9 @@ use Rattle.std.specs.BTreeSet.{insert_key}
 use Rattle.std.specs.Cmp.Lexicographic.{slice_cmp}
 use Rattle.std.proofs.lemmas.Map.Lookups.{exact_bytes}
 use Rattle.system_keys.specs.Keys.{Key}
-use Rattle.model.specs.Metadata.{Entries, entry_value}
-use Rattle.metadata.specs.MapEntries.{bytes_of_keys, entries_of}
+use Rattle.model.specs.Metadata.{Entries, entry_value, Entry}
 use Rattle.metadata.specs.Overwrites.{is_same_key, is_listed, has_entry}
-use Rattle.metadata.proofs.KeyValues.{same_key, same_itself}
-use Rattle.metadata.proofs.MapEntries.{vec_cmp}
-
--- a look-up in the set is one among the bytes of its keys
-pub listed_bytes : (key : Key) (keys : List (Vec ℕ)) → list_any (is_at (λ (k : Vec ℕ). slice_cmp nat_cmp key k.items)) keys ≡ is_listed (bytes_of_keys keys) key
-listed_bytes key [] = refl
-listed_bytes key (k ∷ keys) = ap (λ (t : Bool). is_same_key key k.items || t) (listed_bytes key keys)
+use Rattle.metadata.proofs.KeyValues.{same_key, same_itself, key_cmp}
 
 -- ---- one key more
 
@@ -33,50 +25,50 @@ swapped true true l = refl
 swapped true false l = refl
 swapped false b l = refl
 
-pub listed_inserted : (keys : List (Vec ℕ)) (key : Vec ℕ) (other : Key) → is_listed (bytes_of_keys (insert_key vec_cmp keys key)) other ≡ (is_same_key other key.items || is_listed (bytes_of_keys keys) other)
+pub listed_inserted : (keys : List Key) (key : Key) (other : Key) → is_listed (insert_key key_cmp keys key) other ≡ (is_same_key other key || is_listed keys other)
 listed_inserted [] key other = refl
-listed_inserted (k ∷ keys) key other = by (vec_cmp key k) refl (listed_inserted keys key other)
+listed_inserted (k ∷ keys) key other = by (key_cmp key k) refl (listed_inserted keys key other)
   where
-    by : (r : Ordering) → vec_cmp key k ≡ r → is_listed (bytes_of_keys (insert_key vec_cmp keys key)) other ≡ (is_same_key other key.items || is_listed (bytes_of_keys keys) other)
-        → is_listed (bytes_of_keys (match_ordering r (key ∷ k ∷ keys) (k ∷ keys) (k ∷ insert_key vec_cmp keys key))) other ≡ (is_same_key other key.items || (is_same_key other k.items || is_listed (bytes_of_keys keys) other))
+    by : (r : Ordering) → key_cmp key k ≡ r → is_listed (insert_key key_cmp keys key) other ≡ (is_same_key other key || is_listed keys other)
+        → is_listed (match_ordering r (key ∷ k ∷ keys) (k ∷ keys) (k ∷ insert_key key_cmp keys key)) other ≡ (is_same_key other key || (is_same_key other k || is_listed keys other))
     by Less is rest = refl
     by Equal is rest =
-        let same : key.items ≡ k.items = exact_bytes key.items k.items is in
-        rw same (twice (is_same_key other k.items) (is_listed (bytes_of_keys keys) other))
-    by Greater is rest = ap (λ (t : Bool). is_same_key other k.items || t) rest ∙ swapped (is_same_key other k.items) (is_same_key other key.items) (is_listed (bytes_of_keys keys) other)
+        let same : key ≡ k = exact_bytes key k is in
+        rw same (twice (is_same_key other k) (is_listed keys other))
+    by Greater is rest = ap (λ (t : Bool). is_same_key other k || t) rest ∙ swapped (is_same_key other k) (is_same_key other key) (is_listed keys other)
 
 -- ---- one key less
 
-none_behind_it : (key : Key) (keys : List (Vec ℕ)) → AllByRecursion (λ (other : Vec ℕ). slice_cmp nat_cmp key other.items ≡ Less) keys → is_listed (bytes_of_keys keys) key ≡ false
+none_behind_it : (key : Key) (keys : List Key) → AllByRecursion (λ (other : Key). slice_cmp nat_cmp key other ≡ Less) keys → is_listed keys key ≡ false
 none_behind_it key [] all = refl
 none_behind_it key (k ∷ keys) all =
-    let apart : is_same_key key k.items ≡ false = ap is_eq all.0 in
+    let apart : is_same_key key k ≡ false = ap is_eq all.0 in
     rw apart (none_behind_it key keys all.1)
 
 nothing : (t : Bool) → false ≡ (not t && false)
 nothing true = refl
 nothing false = refl
 
-pub listed_removed : (keys : List (Vec ℕ)) (key other : Key) → IsStrictlySortedBy vec_cmp keys → is_listed (bytes_of_keys (remove_key (is_at (λ (k : Vec ℕ). slice_cmp nat_cmp key k.items)) keys)) other ≡ (not (is_same_key other key) && is_listed (bytes_of_keys keys) other)
+pub listed_removed : (keys : List Key) (key other : Key) → IsStrictlySortedBy key_cmp keys → is_listed ((remove_key (is_at (λ (k : Key). slice_cmp nat_cmp key k)) keys)) other ≡ (not (is_same_key other key) && is_listed keys other)
 unfolding IsStrictlySortedBy
 listed_removed [] key other s = nothing (is_same_key other key)
-listed_removed (k ∷ keys) key other s = by (is_same_key key k.items) refl (is_same_key other key) refl (is_same_key other k.items) refl (listed_removed keys key other s.1)
+listed_removed (k ∷ keys) key other s = by (is_same_key key k) refl (is_same_key other key) refl (is_same_key other k) refl (listed_removed keys key other s.1)
   where
-    gone : List (Vec ℕ)
-    gone = remove_key (is_at (λ (q : Vec ℕ). slice_cmp nat_cmp key q.items)) keys
+    gone : List Key
+    gone = remove_key (is_at (λ (q : Key). slice_cmp nat_cmp key q)) keys
 
-    by : (t : Bool) → is_same_key key k.items ≡ t → (u : Bool) → is_same_key other key ≡ u → (v : Bool) → is_same_key other k.items ≡ v
-        → is_listed (bytes_of_keys gone) other ≡ (not u && is_listed (bytes_of_keys keys) other)
-        → is_listed (bytes_of_keys (cond t keys (k ∷ gone))) other ≡ (not u && (v || is_listed (bytes_of_keys keys) other))
+    by : (t : Bool) → is_same_key key k ≡ t → (u : Bool) → is_same_key other key ≡ u → (v : Bool) → is_same_key other k ≡ v
+        → is_listed gone other ≡ (not u && is_listed keys other)
+        → is_listed (cond t keys (k ∷ gone)) other ≡ (not u && (v || is_listed keys other))
     by true h true w v x later =
-        let same : other ≡ k.items = same_key other key w ∙ same_key key k.items h in
-        ap (is_listed (bytes_of_keys keys)) same ∙ none_behind_it k.items keys s.0
+        let same : other ≡ k = same_key other key w ∙ same_key key k h in
+        ap (is_listed keys) same ∙ none_behind_it k keys s.0
     by true h false w true x later =
-        let same : other ≡ key = same_key other k.items x ∙ sym (same_key key k.items h) in
+        let same : other ≡ key = same_key other k x ∙ sym (same_key key k h) in
         let two : false ≡ true = sym w ∙ ap (is_same_key other) (sym same) ∙ same_itself other in absurd (cc)
     by true h false w false x later = refl
     by false h true w true x later =
-        let same : k.items ≡ key = sym (same_key other k.items x) ∙ same_key other key w in
+        let same : k ≡ key = sym (same_key other k x) ∙ same_key other key w in
         let two : false ≡ true = sym h ∙ ap (is_same_key key) same ∙ same_itself key in absurd (cc)
     by false h true w false x later = rw x later
     by false h false w true x later = rw x refl
@@ -85,8 +77,8 @@ listed_removed (k ∷ keys) key other s = by (is_same_key key k.items) refl (is_
 -- ---- several keys
 
 -- the keys that are left, beside those so far, are all
-abbrev pub AreAdded : (keys left : List (Vec ℕ)) (old now : List Key) → Type 0
-AreAdded keys left old now = (other : Key) → (is_listed (bytes_of_keys left) other || is_listed now other) ≡ (is_listed (bytes_of_keys keys) other || is_listed old other)
+abbrev pub AreAdded : (keys left : List Key) (old now : List Key) → Type 0
+AreAdded keys left old now = (other : Key) → (is_listed left other || is_listed now other) ≡ (is_listed keys other || is_listed old other)
 
 or_nothing : (t : Bool) → (t || false) ≡ t
 or_nothing true = refl
@@ -96,15 +88,15 @@ grouped : (l s b : Bool) → (l || (s || b)) ≡ ((l || s) || b)
 grouped true s b = refl
 grouped false s b = refl
 
-last_listed : (front : List (Vec ℕ)) (k : Vec ℕ) (other : Key) → is_listed (bytes_of_keys (front ++ k ∷ [])) other ≡ (is_listed (bytes_of_keys front) other || is_same_key other k.items)
-last_listed [] k other = or_nothing (is_same_key other k.items)
-last_listed (x ∷ front) k other = ap (λ (t : Bool). is_same_key other x.items || t) (last_listed front k other) ∙ grouped (is_same_key other x.items) (is_listed (bytes_of_keys front) other) (is_same_key other k.items)
+last_listed : (front : List Key) (k : Key) (other : Key) → is_listed (front ++ k ∷ []) other ≡ (is_listed front other || is_same_key other k)
+last_listed [] k other = or_nothing (is_same_key other k)
+last_listed (x ∷ front) k other = ap (λ (t : Bool). is_same_key other x || t) (last_listed front k other) ∙ grouped (is_same_key other x) (is_listed front other) (is_same_key other k)
 
-pub added_last : (keys front : List (Vec ℕ)) (k : Vec ℕ) (old before after : List Key) → ((other : Key) → is_listed after other ≡ (is_same_key other k.items || is_listed before other))
+pub added_last : (keys front : List Key) (k : Key) (old before after : List Key) → ((other : Key) → is_listed after other ≡ (is_same_key other k || is_listed before other))
     → AreAdded keys (front ++ k ∷ []) old before → AreAdded keys front old after
 added_last keys front k old before after one so_far = λ other.
-    ap (λ (t : Bool). is_listed (bytes_of_keys front) other || t) (one other)
-    ∙ grouped (is_listed (bytes_of_keys front) other) (is_same_key other k.items) (is_listed before other)
+    ap (λ (t : Bool). is_listed front other || t) (one other)
+    ∙ grouped (is_listed front other) (is_same_key other k) (is_listed before other)
     ∙ ap (λ (t : Bool). t || is_listed before other) (sym (last_listed front k other))
     ∙ so_far other
 
@@ -123,34 +115,34 @@ or_later : (s a b : Bool) → (a ≡ true → b ≡ true) → (s || a) ≡ true 
 or_later true a b later h = refl
 or_later false a b later h = later h
 
-pub listed_some : (p : Vec ℕ → Bool) (keys : List (Vec ℕ)) (other : Key) → is_listed (bytes_of_keys (filter p keys)) other ≡ true → is_listed (bytes_of_keys keys) other ≡ true
+pub listed_some : (p : Key → Bool) (keys : List Key) (other : Key) → is_listed (filter p keys) other ≡ true → is_listed keys other ≡ true
 listed_some p [] other h = h
 listed_some p (k ∷ keys) other h = by (p k) (listed_some p keys other) h
   where
-    by : (t : Bool) → (is_listed (bytes_of_keys (filter p keys)) other ≡ true → is_listed (bytes_of_keys keys) other ≡ true)
-        → is_listed (bytes_of_keys (cond t (k ∷ filter p keys) (filter p keys))) other ≡ true → (is_same_key other k.items || is_listed (bytes_of_keys keys) other) ≡ true
-    by true later h = or_later (is_same_key other k.items) (is_listed (bytes_of_keys (filter p keys)) other) (is_listed (bytes_of_keys keys) other) later h
-    by false later h = or_right (is_same_key other k.items) (is_listed (bytes_of_keys keys) other) (later h)
+    by : (t : Bool) → (is_listed (filter p keys) other ≡ true → is_listed keys other ≡ true)
+        → is_listed (cond t (k ∷ filter p keys) (filter p keys)) other ≡ true → (is_same_key other k || is_listed keys other) ≡ true
+    by true later h = or_later (is_same_key other k) (is_listed (filter p keys) other) (is_listed keys other) later h
+    by false later h = or_right (is_same_key other k) (is_listed keys other) (later h)
 
-pub listed_first : (k : Vec ℕ) (left all : List (Vec ℕ)) (key : Key) → all ≡ k ∷ left → k.items ≡ key → is_listed (bytes_of_keys all) key ≡ true
+pub listed_first : (k : Key) (left all : List Key) (key : Key) → all ≡ k ∷ left → k ≡ key → is_listed all key ≡ true
 listed_first k left all key steps same =
-    let it : is_same_key key k.items ≡ true = ap (is_same_key key) same ∙ same_itself key in
-    ap (λ (keys : List (Vec ℕ)). is_listed (bytes_of_keys keys) key) steps ∙ ap (λ (t : Bool). t || is_listed (bytes_of_keys left) key) it
+    let it : is_same_key key k ≡ true = ap (is_same_key key) same ∙ same_itself key in
+    ap (λ (keys : List Key). is_listed keys key) steps ∙ ap (λ (t : Bool). t || is_listed left key) it
 
-pub listed_rest : (k : Vec ℕ) (left all : List (Vec ℕ)) (other : Key) → all ≡ k ∷ left → is_listed (bytes_of_keys left) other ≡ true → is_listed (bytes_of_keys all) other ≡ true
-listed_rest k left all other steps h = ap (λ (keys : List (Vec ℕ)). is_listed (bytes_of_keys keys) other) steps ∙ or_right (is_same_key other k.items) (is_listed (bytes_of_keys left) other) h
+pub listed_rest : (k : Key) (left all : List Key) (other : Key) → all ≡ k ∷ left → is_listed left other ≡ true → is_listed all other ≡ true
+listed_rest k left all other steps h = ap (λ (keys : List Key). is_listed keys other) steps ∙ or_right (is_same_key other k) (is_listed left other) h
 
 -- ---- the keys that entries lack
 
 -- the keys so far, without those of the entries that are left, are all that the entries lack
-abbrev pub AreLacked : (entries : Entries) (keys now : List Key) (left : List (Vec ℕ × List ℕ)) → Type 0
-AreLacked entries keys now left = (key : Key) → (not (has_entry (entries_of left) key) && is_listed now key) ≡ (not (has_entry entries key) && is_listed keys key)
+abbrev pub AreLacked : (entries : Entries) (keys now : List Key) (left : Entries) → Type 0
+AreLacked entries keys now left = (key : Key) → (not (has_entry left key) && is_listed now key) ≡ (not (has_entry entries key) && is_listed keys key)
 
-pub lacked_next : (entries : Entries) (keys before after : List Key) (e : Vec ℕ × List ℕ) (left : List (Vec ℕ × List ℕ)) → ((other : Key) → is_listed after other ≡ (not (is_same_key other e.0.items) && is_listed before other))
+pub lacked_next : (entries : Entries) (keys before after : List Key) (e : Entry) (left : Entries) → ((other : Key) → is_listed after other ≡ (not (is_same_key other e.0) && is_listed before other))
     → AreLacked entries keys before (e ∷ left) → AreLacked entries keys after left
 lacked_next entries keys before after e left one so_far = λ key.
-    ap (λ (t : Bool). not (has_entry (entries_of left) key) && t) (one key)
-    ∙ by (is_same_key key e.0.items) (entry_value (entries_of left) key) (is_listed before key)
+    ap (λ (t : Bool). not (has_entry left key) && t) (one key)
+    ∙ by (is_same_key key e.0) (entry_value left key) (is_listed before key)
     ∙ so_far key
   where
     by : (s : Bool) (found : Option (List ℕ)) (b : Bool) → (not (is_some found) && (not s && b)) ≡ (not (is_some (cond s (Some e.1) found)) && b)

@@ -1,6 +1,5 @@
 -- The last entry at or before a keyServers key says which keyServers entry is the last there, if one is; and that one serves the key, unless it is hidden.
-use Rattle.std.proofs.Common.{◌≡◌, refl, sym, ap, ◌∙◌, subst, ℕ, length, drop, List, [], ◌∷◌, ◌++◌, map, Bool, true, false, cond, not, ◌&&◌, Option, Some, None, filter, option_map, inl, is_gt}
-use Rattle.std.specs.Global.{Vec}
+use Rattle.std.proofs.Common.{◌≡◌, refl, sym, ap, ◌∙◌, subst, length, drop, List, [], ◌∷◌, ◌++◌, map, Bool, true, false, cond, not, ◌&&◌, Option, Some, None, filter, option_map, inl, is_gt}
 use Rattle.std.specs.List.{last_or}
 use Rattle.std.specs.declared.ops.Bound.TheVariants.{Included, Unbounded}
 use Rattle.std.specs.BTreeMap.Range.{entries_between}
@@ -11,11 +10,9 @@ use Rattle.system_keys.proofs.KeyOrder.{below_trans}
 use Rattle.model.specs.Metadata.{Entry, Entries, IsInOrder, is_key_servers, behind_prefix, serving_entry, key_servers_entries}
 use Rattle.model.proofs.Members.{Has, Has-from_filter, Has-split}
 use Rattle.model.proofs.Metadata.Entries.{filter_in_order}
-use Rattle.metadata.specs.MapEntries.{entry_from, entries_of, is_serving_up_to}
+use Rattle.metadata.specs.MapEntries.{is_serving_up_to}
 use Rattle.metadata.specs.Overwrites.{is_listed}
 use Rattle.metadata.proofs.KeyValues.{key_cmp, rest_in_order}
-use Rattle.metadata.proofs.MapEntries.{vec_cmp, filtered}
-use Rattle.metadata.proofs.KeptTags.{both_of}
 use Rattle.metadata.proofs.ServingEntries.{is_left, not_up_to, up_to_behind, passing_up_to, filter_both}
 use Rattle.metadata.proofs.HiddenRuns.{begun, prefix_first, forward, front_below, up_to_whole, both_tests}
 
@@ -103,31 +100,31 @@ serving_own rows key =
     ap (λ (p : Entry → Bool). filter p rows) (λ i row. same row i) ∙ both_tests is_key_servers (is_up_to (prefix ++ key)) rows ∙ filter_both (is_up_to (prefix ++ key)) is_key_servers rows
 
 -- what the map lists up to a key
-listed_up_to : (es part : List (Vec ℕ × List ℕ)) (greatest : Vec ℕ) (key : Key) → greatest.items ≡ prefix ++ key → entries_between vec_cmp Unbounded (Included greatest) es ≡ part → filter (is_up_to (prefix ++ key)) (entries_of es) ≡ entries_of part
+listed_up_to : (es part : Entries) (greatest : Key) (key : Key) → greatest ≡ prefix ++ key → entries_between key_cmp Unbounded (Included greatest) es ≡ part → filter (is_up_to (prefix ++ key)) es ≡ part
 listed_up_to es part greatest key high found =
-    ap (λ (k : Key). filter (is_up_to k) (entries_of es)) (sym high) ∙ sym (filtered (λ (row : Entry). is_up_to greatest.items row) es) ∙ ap entries_of found
+    ap (λ (k : Key). filter (is_up_to k) es) (sym high) ∙ found
 
 -- the last of them is a keyServers entry
-pub last_own : (es front : List (Vec ℕ × List ℕ)) (e : Vec ℕ × List ℕ) (greatest : Vec ℕ) (key : Key) → greatest.items ≡ prefix ++ key → entries_between vec_cmp Unbounded (Included greatest) es ≡ front ++ e ∷ [] → is_in key_servers_family e.0.items ≡ true
-    → Some (entry_from e) ≡ last_or None (filter (is_serving_up_to key) (entries_of es))
+pub last_own : (es front : Entries) (e : Entry) (greatest : Key) (key : Key) → greatest ≡ prefix ++ key → entries_between key_cmp Unbounded (Included greatest) es ≡ front ++ e ∷ [] → is_in key_servers_family e.0 ≡ true
+    → Some e ≡ last_or None (filter (is_serving_up_to key) es)
 last_own es front e greatest key high found own =
-    let up_to : filter (is_up_to (prefix ++ key)) (entries_of es) ≡ entries_of front ++ entry_from e ∷ [] = listed_up_to es (front ++ e ∷ []) greatest key high found ∙ both_of front (e ∷ []) in
+    let up_to : filter (is_up_to (prefix ++ key)) es ≡ front ++ e ∷ [] = listed_up_to es (front ++ e ∷ []) greatest key high found in
     sym
-    (ap (last_or None) (serving_own (entries_of es) key ∙ ap (filter is_key_servers) up_to ∙ last_passing is_key_servers (entries_of front) (entry_from e) own) ∙ last_of None (filter is_key_servers (entries_of front)) (entry_from e))
+    (ap (last_or None) (serving_own es key ∙ ap (filter is_key_servers) up_to ∙ last_passing is_key_servers front e own) ∙ last_of None (filter is_key_servers front) e)
 
 -- the last of them is none
-pub last_other : (es front : List (Vec ℕ × List ℕ)) (e : Vec ℕ × List ℕ) (greatest : Vec ℕ) (key : Key) → IsInOrder (entries_of es) → greatest.items ≡ prefix ++ key → entries_between vec_cmp Unbounded (Included greatest) es ≡ front ++ e ∷ [] → is_in key_servers_family e.0.items ≡ false
-    → None ≡ last_or None (filter (is_serving_up_to key) (entries_of es))
+pub last_other : (es front : Entries) (e : Entry) (greatest : Key) (key : Key) → IsInOrder es → greatest ≡ prefix ++ key → entries_between key_cmp Unbounded (Included greatest) es ≡ front ++ e ∷ [] → is_in key_servers_family e.0 ≡ false
+    → None ≡ last_or None (filter (is_serving_up_to key) es)
 last_other es front e greatest key s high found out =
-    let up_to : filter (is_up_to (prefix ++ key)) (entries_of es) ≡ entries_of front ++ entry_from e ∷ [] = listed_up_to es (front ++ e ∷ []) greatest key high found ∙ both_of front (e ∷ []) in
-    let in_order : IsInOrder (entries_of front ++ entry_from e ∷ []) = subst IsInOrder up_to (filter_in_order (is_up_to (prefix ++ key)) (entries_of es) s) in
-    let passes : is_up_to (prefix ++ key) (entry_from e) ≡ true =
-    (Has-from_filter (is_up_to (prefix ++ key)) (entries_of es) (entry_from e) (subst (λ (list : Entries). Has list (entry_from e)) (sym up_to) (Has-split (entries_of front) [] (entry_from e)))).1 in
-    sym (ap (last_or None) (serving_own (entries_of es) key ∙ ap (filter is_key_servers) up_to ∙ none_own (entries_of front) (entry_from e) in_order (under key e.0.items passes out)))
+    let up_to : filter (is_up_to (prefix ++ key)) es ≡ front ++ e ∷ [] = listed_up_to es (front ++ e ∷ []) greatest key high found in
+    let in_order : IsInOrder (front ++ e ∷ []) = subst IsInOrder up_to (filter_in_order (is_up_to (prefix ++ key)) es s) in
+    let passes : is_up_to (prefix ++ key) e ≡ true =
+    (Has-from_filter (is_up_to (prefix ++ key)) es e (subst (λ (list : Entries). Has list e) (sym up_to) (Has-split front [] e))).1 in
+    sym (ap (last_or None) (serving_own es key ∙ ap (filter is_key_servers) up_to ∙ none_own front e in_order (under key e.0 passes out)))
 
 -- there are none
-pub last_missing : (es : List (Vec ℕ × List ℕ)) (greatest : Vec ℕ) (key : Key) → greatest.items ≡ prefix ++ key → entries_between vec_cmp Unbounded (Included greatest) es ≡ [] → None ≡ last_or None (filter (is_serving_up_to key) (entries_of es))
-last_missing es greatest key high found = sym (ap (last_or None) (serving_own (entries_of es) key ∙ ap (filter is_key_servers) (listed_up_to es [] greatest key high found)))
+pub last_missing : (es : Entries) (greatest : Key) (key : Key) → greatest ≡ prefix ++ key → entries_between key_cmp Unbounded (Included greatest) es ≡ [] → None ≡ last_or None (filter (is_serving_up_to key) es)
+last_missing es greatest key high found = sym (ap (last_or None) (serving_own es key ∙ ap (filter is_key_servers) (listed_up_to es [] greatest key high found)))
 
 -- ---- the entry that serves a key
 

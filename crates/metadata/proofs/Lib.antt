@@ -2,6 +2,7 @@ pub mod AppliedLaws
 pub mod BlankedKeys
 pub mod CachedTags
 pub mod EntriesLeft
+pub mod EntryKeys
 pub mod ExactTags
 pub mod GatheredTags
 pub mod HeldKeys

@@ -1,20 +1,18 @@
 -- A loop over keys that gives each of them the same value, and which keys are listed.
 use Rattle.std.proofs.Common.{◌≡◌, refl, sym, ap, ◌∙◌, ℕ, ◌+◌, ◌<◌, ◌≤◌, length, drop, get_or, add-one, List, [], ◌∷◌, Bool, true, false, cond, if◌then◌else◌, ◌&&◌, ◌||◌, filter, Option, Some}
-use Rattle.std.specs.Global.{Vec}
 use Rattle.std.specs.Option.{is_some}
 use Rattle.std.specs.Map.{keys_of}
 use Rattle.std.proofs.Math.Seq.{drop-cons}
 use Rattle.std.proofs.lemmas.List.{drop_all}
 use Rattle.system_keys.specs.Keys.{Key}
 use Rattle.model.specs.Metadata.{Entry, Entries, entry_value}
-use Rattle.metadata.specs.MapEntries.{bytes_of_keys}
 use Rattle.metadata.specs.Overwrites.{is_same_key, is_listed, has_entry}
 use Rattle.metadata.proofs.KeyValues.{same_key}
 
 -- the keys that are left, of those that count, are still to get the value
-abbrev pub GetValue : (value : Option (List ℕ)) (counts : Key → Bool) (keys left : List (Vec ℕ)) (old now : Entries) → Type 0
+abbrev pub GetValue : (value : Option (List ℕ)) (counts : Key → Bool) (keys left : List Key) (old now : Entries) → Type 0
 GetValue value counts keys left old now =
-    (key : Key) → (if counts key && is_listed (bytes_of_keys left) key then value else entry_value now key) ≡ (if counts key && is_listed (bytes_of_keys keys) key then value else entry_value old key)
+    (key : Key) → (if counts key && is_listed left key then value else entry_value now key) ≡ (if counts key && is_listed keys key then value else entry_value old key)
 
 one_more : (c s l : Bool) (value found : Option (List ℕ)) → (if c && l then value else (if c && s then value else found)) ≡ (if c && (s || l) then value else found)
 one_more true true true value found = refl
@@ -22,25 +20,25 @@ one_more true true false value found = refl
 one_more true false l value found = refl
 one_more false s l value found = refl
 
-pub next_listed : (value : Option (List ℕ)) (counts : Key → Bool) (keys : List (Vec ℕ)) (d : Vec ℕ) (i : ℕ) (old before after : Entries) → i < length keys
-    → ((key : Key) → entry_value after key ≡ (if counts key && is_same_key key (get_or keys i d).items then value else entry_value before key))
+pub next_listed : (value : Option (List ℕ)) (counts : Key → Bool) (keys : List Key) (d : Key) (i : ℕ) (old before after : Entries) → i < length keys
+    → ((key : Key) → entry_value after key ≡ (if counts key && is_same_key key (get_or keys i d) then value else entry_value before key))
     → GetValue value counts keys (drop i keys) old before → GetValue value counts keys (drop (i + 1) keys) old after
 next_listed value counts keys d i old before after within one so_far = λ key.
     let split : drop i keys ≡ get_or keys i d ∷ drop (i + 1) keys = rw (add-one, drop-cons keys i d) in
-    ap (λ (found : Option (List ℕ)). if counts key && is_listed (bytes_of_keys (drop (i + 1) keys)) key then value else found) (one key)
-    ∙ one_more (counts key) (is_same_key key (get_or keys i d).items) (is_listed (bytes_of_keys (drop (i + 1) keys)) key) value (entry_value before key)
-    ∙ ap (λ (left : List (Vec ℕ)). if counts key && is_listed (bytes_of_keys left) key then value else entry_value before key) (sym split)
+    ap (λ (found : Option (List ℕ)). if counts key && is_listed (drop (i + 1) keys) key then value else found) (one key)
+    ∙ one_more (counts key) (is_same_key key (get_or keys i d)) (is_listed (drop (i + 1) keys) key) value (entry_value before key)
+    ∙ ap (λ (left : List Key). if counts key && is_listed left key then value else entry_value before key) (sym split)
     ∙ so_far key
 
 none_left : (c : Bool) (value found : Option (List ℕ)) → found ≡ (if c && false then value else found)
 none_left true value found = refl
 none_left false value found = refl
 
-pub all_listed : (value : Option (List ℕ)) (counts : Key → Bool) (keys : List (Vec ℕ)) (i : ℕ) (old now : Entries) → length keys ≤ i → GetValue value counts keys (drop i keys) old now
-    → (key : Key) → entry_value now key ≡ (if counts key && is_listed (bytes_of_keys keys) key then value else entry_value old key)
+pub all_listed : (value : Option (List ℕ)) (counts : Key → Bool) (keys : List Key) (i : ℕ) (old now : Entries) → length keys ≤ i → GetValue value counts keys (drop i keys) old now
+    → (key : Key) → entry_value now key ≡ (if counts key && is_listed keys key then value else entry_value old key)
 all_listed value counts keys i old now past so_far key =
     none_left (counts key) value (entry_value now key)
-    ∙ ap (λ (left : List (Vec ℕ)). if counts key && is_listed (bytes_of_keys left) key then value else entry_value now key) (sym (drop_all i keys past))
+    ∙ ap (λ (left : List Key). if counts key && is_listed left key then value else entry_value now key) (sym (drop_all i keys past))
     ∙ so_far key
 
 -- ---- the keys of entries that pass a test

@@ -1,12 +1,15 @@
 -- The route of a keyServers entry by its own value is its route, since the entry itself is the greatest at or before its key.
-use Rattle.std.proofs.Common.{◌≡◌, refl, sym, ap, ◌∙◌, List, [], ◌∷◌, ◌++◌, append-nil, append_assoc, map, flat_map, Bool, true, false, cond, Option, Some, option_to_list, filter, not, inl, inr}
+use Rattle.std.proofs.Common.{◌≡◌, refl, sym, ap, ◌∙◌, List, [], ◌∷◌, append-nil, map, flat_map, Option, Some, option_to_list, not, inl, inr}
 use Rattle.system_keys.specs.declared.tag.Tag.{Tag}
 use Rattle.model.specs.declared.routing.Route.{Route}
-use Rattle.model.specs.Metadata.{Entry, Entries, IsInOrder, key_servers_entries, is_key_servers, behind_prefix, serving_entry, entry_tags, sorted_tags, tags, route_of}
+use Rattle.model.specs.Metadata.{Entry, Entries, IsInOrder, key_servers_entries, serving_entry, entry_tags, sorted_tags, tags, route_of}
 use Rattle.system_keys.proofs.KeyOrder.{up_to_is, not_below_itself}
 use Rattle.model.proofs.Members.{Has, Contains-from_Has}
 use Rattle.model.proofs.Metadata.Routes.{from_serves, key_servers_in_order}
-use Rattle.metadata.specs.OwnRoutes.{own_route, own_routes}
+
+-- the route of a keyServers entry, with the tags of its own value
+abbrev pub own_route : Entries → Entry → Route
+own_route all row = record { key = row.0; tags = sorted_tags (entry_tags all row) }
 
 -- ---- an entry serves its own key
 
@@ -29,22 +32,5 @@ map_alike f g all (x ∷ xs) same among =
     cc
 
 -- the routes by their own values are the routes
-pub routes_are : (rows : Entries) → IsInOrder rows → own_routes rows rows ≡ map (route_of rows) (key_servers_entries rows)
+pub routes_are : (rows : Entries) → IsInOrder rows → map (own_route rows) (key_servers_entries rows) ≡ map (route_of rows) (key_servers_entries rows)
 routes_are rows s = map_alike (own_route rows) (route_of rows) (key_servers_entries rows) (key_servers_entries rows) (λ row has. same_route rows row s has) (λ row has. has)
-
--- ---- one entry after another
-
-pub next_route : (all : Entries) (row : Entry) (rows : Entries) → own_routes all (row ∷ []) ++ own_routes all rows ≡ own_routes all (row ∷ rows)
-next_route all row rows = by (is_key_servers row)
-  where
-    by : (t : Bool) → map (own_route all) (map behind_prefix (cond t (row ∷ []) [])) ++ own_routes all rows ≡ map (own_route all) (map behind_prefix (cond t (row ∷ filter is_key_servers rows) (filter is_key_servers rows)))
-    by true = refl
-    by false = refl
-
--- a loop over entries, which adds the route of each
-pub routes_next : (all : Entries) (row : Entry) (rest : Entries) (before after total : List Route) → after ≡ before ++ own_routes all (row ∷ []) → before ++ own_routes all (row ∷ rest) ≡ total → after ++ own_routes all rest ≡ total
-routes_next all row rest before after total added so_far =
-    ap (λ (routes : List Route). routes ++ own_routes all rest) added
-    ∙ append_assoc before (own_routes all (row ∷ [])) (own_routes all rest)
-    ∙ ap (λ (routes : List Route). before ++ routes) (next_route all row rest)
-    ∙ so_far

@@ -1,7 +1,6 @@
 -- What the calls of the server table do to what stands beside each server.
 use Rattle.std.proofs.Common.{◌≡◌, refl, sym, ap, ◌∙◌, subst, ℕ, ◌+◌, ◌<◌, ◌≤◌, length, drop, List, [], ◌∷◌, ◌++◌, Bool, true, false, cond, if◌then◌else◌, ◌||◌, ◌&&◌, Option, Some, None, Result, Ok, Err, IsOk, OnOk, OnErr, ◌⊎◌, inl, inr, arith}
 use Rattle.std.specs.Prelude.{bytes_eq, option_map, option_to_list}
-use Rattle.std.specs.Global.{Vec}
 use Rattle.std.specs.Option.{is_some, option_flatten}
 use Rattle.std.specs.Result.{result_ok}
 use Rattle.std.specs.Cmp.Lexicographic.{bytes_decides}
@@ -11,7 +10,6 @@ use Rattle.system_keys.specs.Families.{server_tag_family, server_id_length}
 use Rattle.system_keys.specs.Rows.{Id, tag_at}
 use Rattle.system_keys.specs.declared.refusal.RowFault.{RowFault}
 use Rattle.model.specs.Metadata.{Entry, Entries, entry_value, one_tag, tag_of}
-use Rattle.metadata.specs.MapEntries.{bytes_of_keys}
 use Rattle.metadata.specs.Overwrites.{is_same_key, is_listed, has_entry}
 use Rattle.metadata.specs.CachedTags.{Values, names_server, tag_by}
 use Rattle.metadata.specs.ServerTables.{ServerTags, TaggedServers, decoded_tag, server_at, server_by, tag_listed, AreServers, AreServerKeys, AreRefreshed, HasPlaces}
@@ -77,11 +75,11 @@ row_taken key values id table es new tags own is taken = one_refreshed key value
 -- ---- several keys
 
 -- the rows at the keys that are left are still to be read, and can be
-pub record AreRefreshing (keys : List Key) (left : List (Vec ℕ)) (values : Values) (old : ServerTags) (now : TaggedServers) : Type 0 where
-  pub places : HasPlaces now (bytes_of_keys left) values
+pub record AreRefreshing (keys : List Key) (left : List Key) (values : Values) (old : ServerTags) (now : TaggedServers) : Type 0 where
+  pub places : HasPlaces now left values
   pub same :
       (id : Id) → length id ≡ server_id_length
-      → (if is_listed (bytes_of_keys left) (server_tag_family.prefix ++ id) then server_by values id else server_at now.tags id) ≡ (if is_listed keys (server_tag_family.prefix ++ id) then server_by values id else server_at old id)
+      → (if is_listed left (server_tag_family.prefix ++ id) then server_by values id else server_at now.tags id) ≡ (if is_listed keys (server_tag_family.prefix ++ id) then server_by values id else server_at old id)
 
 or_left : (s l : Bool) → (s || false) ≡ true → (s || l) ≡ true
 or_left true l h = refl
@@ -104,22 +102,22 @@ still : (s : Bool) (row old : Option (Option Tag)) → is_some row ≡ true → 
 still true row old has there = has
 still false row old has there = there
 
-pub refreshing_next : (keys : List Key) (k : Vec ℕ) (left : List (Vec ℕ)) (values : Values) (old : ServerTags) (before after : TaggedServers) → AreRefreshed (k.items ∷ []) values before.tags after.tags → before.room ≤ after.room + 1 → AreRefreshing keys (k ∷ left) values old before → AreRefreshing keys left values old after
+pub refreshing_next : (keys : List Key) (k : Key) (left : List Key) (values : Values) (old : ServerTags) (before after : TaggedServers) → AreRefreshed (k ∷ []) values before.tags after.tags → before.room ≤ after.room + 1 → AreRefreshing keys (k ∷ left) values old before → AreRefreshing keys left values old after
 refreshing_next keys k left values old before after one room so_far = record {
   places = by so_far.places;
   same = λ id size.
-      ap (λ (found : Option (Option Tag)). if is_listed (bytes_of_keys left) (key_of id) then server_by values id else found) (one id size)
-      ∙ one_more (is_same_key (key_of id) k.items) (is_listed (bytes_of_keys left) (key_of id)) (server_by values id) (server_at before.tags id)
+      ap (λ (found : Option (Option Tag)). if is_listed left (key_of id) then server_by values id else found) (one id size)
+      ∙ one_more (is_same_key (key_of id) k) (is_listed left (key_of id)) (server_by values id) (server_at before.tags id)
       ∙ so_far.same id size;
 }
   where
-    by : HasPlaces before (k.items ∷ bytes_of_keys left) values → HasPlaces after (bytes_of_keys left) values
+    by : HasPlaces before (k ∷ left) values → HasPlaces after left values
     by (inl h) = inl (omega (arith, h, room))
     by (inr there) = inr (λ id size listed has.
         ap is_some (one id size)
-        ∙ still (is_same_key (key_of id) k.items) (server_by values id) (server_at before.tags id) has (there id size (or_right (is_same_key (key_of id) k.items) (is_listed (bytes_of_keys left) (key_of id)) listed) has))
+        ∙ still (is_same_key (key_of id) k) (server_by values id) (server_at before.tags id) has (there id size (or_right (is_same_key (key_of id) k) (is_listed left (key_of id)) listed) has))
 
-pub refreshing_first : (keys : List Key) (left : List (Vec ℕ)) (values : Values) (now : TaggedServers) → bytes_of_keys left ≡ keys → HasPlaces now keys values → AreRefreshing keys left values now.tags now
+pub refreshing_first : (keys : List Key) (left : List Key) (values : Values) (now : TaggedServers) → left ≡ keys → HasPlaces now keys values → AreRefreshing keys left values now.tags now
 refreshing_first keys left values now all places = record {
   places = subst (λ (list : List Key). HasPlaces now list values) (sym all) places;
   same = λ id size. ap (λ (list : List Key). if is_listed list (key_of id) then server_by values id else server_at now.tags id) all;

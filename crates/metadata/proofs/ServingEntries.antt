@@ -1,6 +1,5 @@
 -- The entries of the map between two keys with the prefix are the keyServers entries between these keys without it.
 use Rattle.std.proofs.Common.{◌≡◌, refl, sym, ap, ◌∙◌, ℕ, List, [], ◌∷◌, ◌++◌, map, flat_map, length, drop, Bool, true, false, cond, not, ◌&&◌, Option, Some, None, filter, Ordering, Less, Equal, Greater, nat_cmp, nat_eq, is_le, is_lt, is_eq}
-use Rattle.std.specs.Global.{Vec}
 use Rattle.std.specs.List.{last_or, starts_with}
 use Rattle.std.specs.Ordering.{ordering_then}
 use Rattle.std.specs.Cmp.{nat_cmp_total}
@@ -18,9 +17,8 @@ use Rattle.metadata.proofs.Tags.{added, next_tags}
 use Rattle.system_keys.proofs.KeyOrder.{up_to_is}
 use Rattle.system_keys.proofs.KeyLaws.{begins_below}
 use Rattle.system_keys.specs.Limits.{range_fault}
-use Rattle.metadata.specs.MapEntries.{entry_from, entries_of, is_serving_up_to, is_serving_inside}
+use Rattle.metadata.specs.MapEntries.{is_serving_up_to, is_serving_inside}
 use Rattle.metadata.specs.Overwrites.{is_listed}
-use Rattle.metadata.proofs.MapEntries.{vec_cmp, filtered}
 
 abbrev key_cmp : Key → Key → Ordering
 key_cmp = slice_cmp nat_cmp
@@ -99,22 +97,20 @@ filter_behind whole behind passes (row ∷ rows) =
     by w true false e h rest = rw (h, e) rest
 
 -- the entries of the map from the prefix up to a key behind it
-pub between_up_to : (es : List (Vec ℕ × List ℕ)) (least greatest : Vec ℕ) (key : Key) → least.items ≡ key_servers_family.prefix ++ [] → greatest.items ≡ key_servers_family.prefix ++ key
-    → entries_of (entries_between vec_cmp (Included least) (Included greatest) es) ≡ filter (is_serving_up_to key) (entries_of es)
+pub between_up_to : (es : Entries) (least greatest : Key) (key : Key) → least ≡ key_servers_family.prefix ++ [] → greatest ≡ key_servers_family.prefix ++ key
+    → (entries_between key_cmp (Included least) (Included greatest) es) ≡ filter (is_serving_up_to key) es
 between_up_to es least greatest key low high =
-    let same : (row : Entry) → (is_key_up_to least.items row.0 && not (is_key_below greatest.items row.0)) ≡ is_serving_up_to key row =
+    let same : (row : Entry) → (is_key_up_to least row.0 && not (is_key_below greatest row.0)) ≡ is_serving_up_to key row =
     λ row. rw (low, high) (up_to_behind key_servers_family.prefix key row.0) in
-    filtered (λ (row : Entry). is_key_up_to least.items row.0 && not (is_key_below greatest.items row.0)) es
-    ∙ ap (λ (p : Entry → Bool). filter p (entries_of es)) (λ i row. same row i)
+    ap (λ (p : Entry → Bool). filter p es) (λ i row. same row i)
 
 -- the entries of the map after a key behind the prefix, and before another
-pub between_inside : (es : List (Vec ℕ × List ℕ)) (begin end : Vec ℕ) (range : Range) → begin.items ≡ key_servers_family.prefix ++ range.begin → end.items ≡ key_servers_family.prefix ++ range.end
-    → entries_of (entries_between vec_cmp (Excluded begin) (Excluded end) es) ≡ filter (is_serving_inside range) (entries_of es)
+pub between_inside : (es : Entries) (begin end : Key) (range : Range) → begin ≡ key_servers_family.prefix ++ range.begin → end ≡ key_servers_family.prefix ++ range.end
+    → (entries_between key_cmp (Excluded begin) (Excluded end) es) ≡ filter (is_serving_inside range) es
 between_inside es begin end range low high =
-    let same : (row : Entry) → (is_key_below begin.items row.0 && not (is_key_up_to end.items row.0)) ≡ is_serving_inside range row =
+    let same : (row : Entry) → (is_key_below begin row.0 && not (is_key_up_to end row.0)) ≡ is_serving_inside range row =
     λ row. rw (low, high) (inside_behind key_servers_family.prefix range.begin range.end row.0) in
-    filtered (λ (row : Entry). is_key_below begin.items row.0 && not (is_key_up_to end.items row.0)) es
-    ∙ ap (λ (p : Entry → Bool). filter p (entries_of es)) (λ i row. same row i)
+    ap (λ (p : Entry → Bool). filter p es) (λ i row. same row i)
 
 -- ---- entries that are not hidden
 
@@ -148,35 +144,35 @@ abbrev pub is_left : (hidden : List Key) → Entry → Bool
 is_left hidden entry = not (is_listed hidden entry.0)
 
 -- the last of the entries of the map that is not hidden, or else the one before them
-abbrev pub last_left : (before : Option Entry) (hidden : List Key) → List (Vec ℕ × List ℕ) → Option Entry
-last_left before hidden es = last_or before (map behind_prefix (filter (is_left hidden) (entries_of es)))
+abbrev pub last_left : (before : Option Entry) (hidden : List Key) → Entries → Option Entry
+last_left before hidden es = last_or before (map behind_prefix (filter (is_left hidden) es))
 
-pub last_hidden : (before : Option Entry) (hidden : List Key) (es : List (Vec ℕ × List ℕ)) (e : Vec ℕ × List ℕ) → is_listed hidden e.0.items ≡ true → last_left before hidden (es ++ e ∷ []) ≡ last_left before hidden es
+pub last_hidden : (before : Option Entry) (hidden : List Key) (es : Entries) (e : Entry) → is_listed hidden e.0 ≡ true → last_left before hidden (es ++ e ∷ []) ≡ last_left before hidden es
 last_hidden before hidden [] e hides = rw hides refl
-last_hidden before hidden (d ∷ es) e hides = by (is_left hidden (entry_from d)) (last_hidden (Some (behind_prefix (entry_from d))) hidden es e hides) (last_hidden before hidden es e hides)
+last_hidden before hidden (d ∷ es) e hides = by (is_left hidden d) (last_hidden (Some (behind_prefix d)) hidden es e hides) (last_hidden before hidden es e hides)
   where
-    left : List (Vec ℕ × List ℕ) → Entries
-    left list = filter (is_left hidden) (entries_of list)
+    left : Entries → Entries
+    left list = filter (is_left hidden) list
 
-    by : (t : Bool) → last_left (Some (behind_prefix (entry_from d))) hidden (es ++ e ∷ []) ≡ last_left (Some (behind_prefix (entry_from d))) hidden es → last_left before hidden (es ++ e ∷ []) ≡ last_left before hidden es
-        → last_or before (map behind_prefix (cond t (entry_from d ∷ left (es ++ e ∷ [])) (left (es ++ e ∷ [])))) ≡ last_or before (map behind_prefix (cond t (entry_from d ∷ left es) (left es)))
+    by : (t : Bool) → last_left (Some (behind_prefix d)) hidden (es ++ e ∷ []) ≡ last_left (Some (behind_prefix d)) hidden es → last_left before hidden (es ++ e ∷ []) ≡ last_left before hidden es
+        → last_or before (map behind_prefix (cond t (d ∷ left (es ++ e ∷ [])) (left (es ++ e ∷ [])))) ≡ last_or before (map behind_prefix (cond t (d ∷ left es) (left es)))
     by true later rest = later
     by false later rest = rest
 
-pub last_shown : (before : Option Entry) (hidden : List Key) (es : List (Vec ℕ × List ℕ)) (e : Vec ℕ × List ℕ) → is_listed hidden e.0.items ≡ false → last_left before hidden (es ++ e ∷ []) ≡ Some (behind_prefix (entry_from e))
+pub last_shown : (before : Option Entry) (hidden : List Key) (es : Entries) (e : Entry) → is_listed hidden e.0 ≡ false → last_left before hidden (es ++ e ∷ []) ≡ Some (behind_prefix e)
 last_shown before hidden [] e shows = rw shows refl
-last_shown before hidden (d ∷ es) e shows = by (is_left hidden (entry_from d)) (last_shown (Some (behind_prefix (entry_from d))) hidden es e shows) (last_shown before hidden es e shows)
+last_shown before hidden (d ∷ es) e shows = by (is_left hidden d) (last_shown (Some (behind_prefix d)) hidden es e shows) (last_shown before hidden es e shows)
   where
-    left : List (Vec ℕ × List ℕ) → Entries
-    left list = filter (is_left hidden) (entries_of list)
+    left : Entries → Entries
+    left list = filter (is_left hidden) list
 
-    by : (t : Bool) → last_left (Some (behind_prefix (entry_from d))) hidden (es ++ e ∷ []) ≡ Some (behind_prefix (entry_from e)) → last_left before hidden (es ++ e ∷ []) ≡ Some (behind_prefix (entry_from e))
-        → last_or before (map behind_prefix (cond t (entry_from d ∷ left (es ++ e ∷ [])) (left (es ++ e ∷ [])))) ≡ Some (behind_prefix (entry_from e))
+    by : (t : Bool) → last_left (Some (behind_prefix d)) hidden (es ++ e ∷ []) ≡ Some (behind_prefix e) → last_left before hidden (es ++ e ∷ []) ≡ Some (behind_prefix e)
+        → last_or before (map behind_prefix (cond t (d ∷ left (es ++ e ∷ [])) (left (es ++ e ∷ [])))) ≡ Some (behind_prefix e)
     by true later rest = later
     by false later rest = rest
 
 -- the last of those up to a key serves it
-pub last_serves : (hidden : List Key) (rows : Entries) (es : List (Vec ℕ × List ℕ)) (key : Key) → entries_of es ≡ filter (is_serving_up_to key) rows
+pub last_serves : (hidden : List Key) (rows : Entries) (es : Entries) (key : Key) → es ≡ filter (is_serving_up_to key) rows
     → last_left None hidden es ≡ serving_entry (key_servers_entries (filter (is_left hidden) rows)) key
 last_serves hidden rows es key is =
     ap (λ (found : Entries). last_or None (map behind_prefix (filter (is_left hidden) found))) is
@@ -193,8 +189,8 @@ pub tags_inside : (all rows inside : Entries) → map behind_prefix rows ≡ ins
 tags_inside all rows inside is = sym (tags_behind all rows) ∙ ap (flat_map (entry_tags all)) is
 
 -- the tags of the entries inside a range that are not hidden
-pub tags_left : (all rows : Entries) (hidden : List Key) (es : List (Vec ℕ × List ℕ)) (range : Range) → entries_of es ≡ filter (is_serving_inside range) rows → filter (is_left hidden) rows ≡ all
-    → flat_map (entry_tags all) (filter (is_left hidden) (entries_of es)) ≡ flat_map (entry_tags all) (filter (is_entry_inside range) (key_servers_entries all))
+pub tags_left : (all rows : Entries) (hidden : List Key) (es : Entries) (range : Range) → es ≡ filter (is_serving_inside range) rows → filter (is_left hidden) rows ≡ all
+    → flat_map (entry_tags all) (filter (is_left hidden) es) ≡ flat_map (entry_tags all) (filter (is_entry_inside range) (key_servers_entries all))
 tags_left all rows hidden es range is are =
     ap (λ (found : Entries). flat_map (entry_tags all) (filter (is_left hidden) found)) is
     ∙ tags_inside all (filter (is_left hidden) (filter (is_serving_inside range) rows)) (filter (is_entry_inside range) (key_servers_entries (filter (is_left hidden) rows))) (passing_inside (is_left hidden) rows range)
@@ -227,7 +223,7 @@ inside_next all rest hidden entry before now total hides shows so_far = by (is_l
     by false e = tags_shown all rest hidden entry before now total e (shows e) so_far
 
 -- the keys of the keyServers entries at the ends of a range without a fault are in order
-pub ends_forward : (begin end : Vec ℕ) (range : Range) → begin.items ≡ key_servers_family.prefix ++ range.begin → end.items ≡ key_servers_family.prefix ++ range.end → range_fault range.begin range.end ≡ None → vec_cmp begin end ≡ Less
+pub ends_forward : (begin end : Key) (range : Range) → begin ≡ key_servers_family.prefix ++ range.begin → end ≡ key_servers_family.prefix ++ range.end → range_fault range.begin range.end ≡ None → key_cmp begin end ≡ Less
 ends_forward begin end range low high e = rw (low, high) (less (key_cmp range.begin range.end) (begins_below range.begin range.end e))
   where
     less : (r : Ordering) → is_lt r ≡ true → r ≡ Less

@@ -1,7 +1,6 @@
 -- Runs of hidden keyServers rows. A row is hidden if its key is among the hidden keys; a run is what
 -- a look-up may jump over. Keys stand here whole, with the prefix of keyServers keys.
-use Rattle.std.specs.Prelude.{◌≡◌, ℕ, List, map, true, false, ◌&&◌, Bool}
-use Rattle.std.specs.Global.{Vec}
+use Rattle.std.specs.Prelude.{◌≡◌, List, true, false, ◌&&◌, Bool}
 use Rattle.std.specs.List.{AllByRecursion}
 use Rattle.system_keys.specs.Keys.{Key, Range, is_key_below}
 use Rattle.system_keys.specs.Families.{key_servers_family, is_in}
@@ -12,10 +11,6 @@ use Rattle.metadata.specs.Overwrites.{is_listed, has_entry}
 -- a run of keys: its first key and its last
 abbrev pub Run : Type 0
 Run = Key × Key
-
--- the runs that a map keeps: the last key of each at its first
-abbrev pub runs_of : List (Vec ℕ × Vec ℕ) → List Run
-runs_of entries = map (λ (run : Vec ℕ × Vec ℕ). (run.0.items, run.1.items)) entries
 
 -- The first key of the run begins with the prefix of keyServers keys, and each entry from its first
 -- to its last key, both with them, is hidden.

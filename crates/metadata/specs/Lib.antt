@@ -1,5 +1,7 @@
 -- The definitions, in reading order.
 
+-- keys of entries, by where they stand to the keyServers keys
+pub mod EntryKeys
 -- the entries of the map, as the model's
 pub mod MapEntries
 -- which keys a row clears, and what each key has afterwards
@@ -10,8 +12,8 @@ pub mod CachedTags
 pub mod SameServers
 -- the table of the servers' tags, and what brings it up to date
 pub mod ServerTables
--- the routes of entries, each with the tags of its own value
-pub mod OwnRoutes
+-- the routes of entries, by the table of the servers' tags
+pub mod Routes
 -- runs of rows that are hidden
 pub mod HiddenRuns
 -- rows that are being applied, and can be taken back

@@ -6,10 +6,10 @@ ghost use Rattle.std.specs.List.{list_all, list_any};
 ghost use Rattle.model.specs.Verdicts.{is_committed};
 ghost use Rattle.model.specs.Metadata.{is_applied};
 ghost use Rattle.system_keys.specs.Keys.{Key};
-ghost use Rattle.metadata.specs.MapEntries.{bytes_of_keys};
 ghost use Rattle.metadata.specs.Overwrites.{changes_of, cleared_keys, cleared_ranges, is_listed};
 ghost use Rattle.metadata.specs.Overwrites.{lent_ranges};
 
+use crate::entry_key::EntryKey;
 use crate::entry_map::EntryMap;
 use model::{StateTxn, Verdict};
 use std::alloc::Global;
@@ -61,8 +61,8 @@ pub(crate) fn cleared_keys(
     entries: &EntryMap,
     locked: bool,
     transactions: &[StateTxn],
-) -> Result<Vec<Vec<u8>>, OutOfMemory>
-    ensures { IfOk result (λ keys. (key : Key) → is_listed (bytes_of_keys keys.items) key
+) -> Result<Vec<EntryKey>, OutOfMemory>
+    ensures { IfOk result (λ keys. (key : Key) → is_listed keys.items key
         ≡ is_listed (cleared_keys entries.now (changes_of locked transactions.now)) key) }
 {
     let mut ranges = cleared_ranges(entries.alloc(), locked, transactions)?;

@@ -12,7 +12,7 @@ ghost use Rattle.std.specs.Map.{keys_of};
 ghost use Rattle.system_keys.specs.Keys.{Key, holds, is_key_below};
 ghost use Rattle.system_keys.specs.Families.{key_servers_family, is_in};
 ghost use Rattle.model.specs.Metadata.{Entries, IsInOrder, entry_value, key_servers_entries};
-ghost use Rattle.metadata.specs.MapEntries.{entries_of, bytes_of_keys, lent_entry};
+ghost use Rattle.metadata.specs.MapEntries.{lent_entry};
 ghost use Rattle.metadata.specs.MapEntries.{is_serving_up_to, is_serving_inside};
 ghost use Rattle.metadata.specs.Overwrites.{is_same_key, is_listed, has_entry, value_back};
 ghost use Rattle.metadata.specs.Overwrites.{IsPutOver, TakesBack};
@@ -22,35 +22,36 @@ ghost use Rattle.metadata.specs.HiddenRuns.{IsHiddenRun, AreHiddenRuns, is_servi
 ghost use Rattle.metadata.specs.HiddenRuns.{is_serving_after};
 ghost use Rattle.metadata.specs.ServerTables.{AreServerKeys};
 
+use crate::entry_key::EntryKey;
 use crate::key_runs::KeyRuns;
 use crate::key_set::{KeySet, next_key_is};
 use crate::order::{is_between, is_key_below};
 use crate::row::Row;
 use crate::server_table::ServerTable;
 use std::alloc::Global;
+use std::cmp::Ordering;
 use std::collections::BTreeMap;
 use std::collections::btree_map::{Iter, Range};
 use std::marker::Model;
 use std::ops::Bound;
-use system_keys::{Bytes, KEY_SERVERS_PREFIX, KeyRange, OutOfMemory, SERVER_TAG_PREFIX};
+use system_keys::{Bytes, KeyRange, OutOfMemory};
 
 /// An ordered map from keys to values. Contracts see the list of its entries, in the order of
 /// their keys.
 #[derive(Drop)]
 pub(crate) struct EntryMap {
     alloc: Global,
-    values: BTreeMap<Vec<u8>, Row>,
+    values: BTreeMap<EntryKey, Row>,
 }
 
 impl Model for EntryMap {
     ghost use Rattle.model.specs.Metadata.{Entries, IsInOrder};
-    ghost use Rattle.metadata.specs.MapEntries.{entries_of};
 
     ghost Value = { Entries };
 
-    ghost view = { λ m. entries_of m.values.entries };
+    ghost view = { λ m. m.values.entries };
 
-    ghost invariant = { λ m. IsInOrder (entries_of m.values.entries) };
+    ghost invariant = { λ m. IsInOrder m.values.entries };
 }
 
 impl EntryMap {
@@ -70,16 +71,32 @@ impl EntryMap {
     }
 
     /// The value at a key. Does not allocate.
-    pub(crate) fn get<'a>(&'a self, key: &[u8]) -> Option<&'a [u8]>
+    pub(crate) fn get<'a>(&'a self, key: &EntryKey) -> Option<&'a [u8]>
         ensures { option_map (λ value. value.now) result ≡ entry_value self.now key.now }
     {
         let row = self.values.get(key)?;
         Some(row.value())
     }
 
+    /// The value at a key of these bytes. Does not allocate; takes a step for each entry before it whose
+    /// key begins with the same 15 bytes, behind the prefix of keyServers keys.
+    pub(crate) fn value_at(&self, key: &[u8]) -> Option<&[u8]>
+        ensures { option_map (λ value. value.now) result ≡ entry_value self.now key.now }
+    {
+        let front = EntryKey::front_of(self.alloc, key);
+        for (found, row) in self.values.range(&front..) {
+            match found.compare_to(key) {
+                Ordering::Less => {}
+                Ordering::Equal => return Some(row.value()),
+                Ordering::Greater => return None,
+            }
+        }
+        None
+    }
+
     /// The entries in the order of their keys. Does not allocate.
-    pub(crate) fn iter(&self) -> Iter<'_, Vec<u8>, Row>
-        ensures entries { entries_of result ≡ self.now }
+    pub(crate) fn iter(&self) -> Iter<'_, EntryKey, Row>
+        ensures entries { result ≡ self.now }
         ensures order { IsInOrder self.now }
     {
         self.values.iter()
@@ -91,8 +108,8 @@ impl EntryMap {
     {
         let mut keys = KeySet::new(self.alloc);
         for (key, _) in self.iter() {
-            if key.as_slice().starts_with(SERVER_TAG_PREFIX) {
-                keys.insert(key.as_slice())?;
+            if key.is_server_tag() {
+                keys.insert(key)?;
             }
         }
         Ok(keys)
@@ -105,17 +122,19 @@ impl EntryMap {
         ensures order { IsInOrder self.new }
         ensures err { OnErr result (self.new ≡ self.old) }
     {
-        let key = Vec::from_slice(self.alloc, key)?;
+        // (gives the proof that the entries are in order)
+        let _alloc = self.alloc;
         self.put_owned(key, value.copy()?)
     }
 
     /// Sets the value at the key. Fails only with `OutOfMemory`; the map is then unchanged.
-    pub(crate) fn put_owned(&mut self, key: Vec<u8>, value: Bytes) -> Result<(), OutOfMemory>
+    pub(crate) fn put_owned(&mut self, key: &[u8], value: Bytes) -> Result<(), OutOfMemory>
         ensures ok { OnOk result
-            (self.new ≡ insert_entry (slice_cmp nat_cmp) self.old key.items value) }
+            (self.new ≡ insert_entry (slice_cmp nat_cmp) self.old key.now value) }
         ensures order { IsInOrder self.new }
         ensures err { OnErr result (self.new ≡ self.old) }
     {
+        let key = EntryKey::new(self.alloc, key)?;
         self.values.insert(key, Row::unread(value))?;
         Ok(())
     }
@@ -125,15 +144,15 @@ impl EntryMap {
     /// only with `OutOfMemory`; the map is then unchanged.
     pub(crate) fn put_row(
         &mut self,
-        key: Vec<u8>,
+        key: EntryKey,
         row: Row,
         servers: &ServerTable,
         displaced: &mut Vec<Displaced>,
     ) -> Result<(), OutOfMemory>
         ensures ok { OnOk result
-            (self.new ≡ insert_entry (slice_cmp nat_cmp) self.old key.items row) }
+            (self.new ≡ insert_entry (slice_cmp nat_cmp) self.old key row) }
         ensures displaced { OnOk result (displaced.new.items
-            ≡ displaced.old.items ++ (key.items, entry_value self.old key.items) ∷ []) }
+            ≡ displaced.old.items ++ (key, entry_value self.old key) ∷ []) }
         ensures was_in_order { IsInOrder self.old }
         ensures order { IsInOrder self.new }
         ensures err { OnErr result (self.new ≡ self.old) }
@@ -141,7 +160,7 @@ impl EntryMap {
     {
         let row = self.row_to_put(&key, row, servers)?;
         displaced.reserve(1)?;
-        let copy = Vec::from_slice(self.alloc, key.as_slice())?;
+        let copy = key.copy()?;
         let old_row = self.values.insert(key, row)?;
         add_displaced(displaced, copy, old_row);
         Ok(())
@@ -149,10 +168,15 @@ impl EntryMap {
 
     /// The row, with its value read if the key is that of a keyServers entry. Fails only with
     /// `OutOfMemory`.
-    fn row_to_put(&self, key: &Vec<u8>, row: Row, servers: &ServerTable) -> Result<Row, OutOfMemory>
+    fn row_to_put(
+        &self,
+        key: &EntryKey,
+        row: Row,
+        servers: &ServerTable,
+    ) -> Result<Row, OutOfMemory>
         ensures { IfOk result (λ put. put ≡ row) }
     {
-        if key.as_slice().starts_with(KEY_SERVERS_PREFIX) {
+        if key.is_key_servers() {
             row.read(self.alloc, servers)
         } else {
             Ok(row)
@@ -176,9 +200,9 @@ impl EntryMap {
     pub(crate) fn list_keys_inside(
         &self,
         range: &KeyRange,
-        keys: &mut Vec<Vec<u8>>,
+        keys: &mut Vec<EntryKey>,
     ) -> Result<(), OutOfMemory>
-        ensures { OnOk result (bytes_of_keys keys.new.items ≡ bytes_of_keys keys.old.items
+        ensures { OnOk result (keys.new.items ≡ keys.old.items
             ++ keys_of (filter (λ entry. holds range.now entry.0) self.now)) }
     {
         self.list_keys_between(range.begin(), range.end(), keys)
@@ -190,26 +214,26 @@ impl EntryMap {
         &self,
         begin: &[u8],
         end: &[u8],
-        keys: &mut Vec<Vec<u8>>,
+        keys: &mut Vec<EntryKey>,
     ) -> Result<(), OutOfMemory>
         requires { is_key_below begin.now end.now ≡ true }
-        ensures { OnOk result (bytes_of_keys keys.new.items ≡ bytes_of_keys keys.old.items
+        ensures { OnOk result (keys.new.items ≡ keys.old.items
             ++ keys_of (filter (λ entry. holds (record { begin = begin.now; end = end.now }) entry.0)
             self.now)) }
     {
-        let begin = Vec::from_slice(self.alloc, begin)?;
-        let end = Vec::from_slice(self.alloc, end)?;
+        let begin = EntryKey::new(self.alloc, begin)?;
+        let end = EntryKey::new(self.alloc, end)?;
         let bounds = (Bound::Included(&begin), Bound::Excluded(&end));
         for (key, _) in self.values.range(bounds) {
-            keys.push(Vec::from_slice(self.alloc, key.as_slice())?)?;
+            keys.push(key.copy()?)?;
         }
         Ok(())
     }
 
     /// The keys of the entries that are in one of the ranges. Each is listed once if the begins of
     /// the ranges do not fall. Fails only with `OutOfMemory`.
-    pub(crate) fn keys_in_any(&self, ranges: &[&KeyRange]) -> Result<Vec<Vec<u8>>, OutOfMemory>
-        ensures { IfOk result (λ keys. (key : Key) → is_listed (bytes_of_keys keys.items) key
+    pub(crate) fn keys_in_any(&self, ranges: &[&KeyRange]) -> Result<Vec<EntryKey>, OutOfMemory>
+        ensures { IfOk result (λ keys. (key : Key) → is_listed keys.items key
             ≡ (is_held (lent_ranges ranges.now) key && has_entry self.now key)) }
     {
         let mut keys = Vec::new(self.alloc);
@@ -230,13 +254,13 @@ impl EntryMap {
     }
 
     /// Removes the entries at the keys. Does not allocate.
-    fn remove_listed(&mut self, keys: &[Vec<u8>])
+    fn remove_listed(&mut self, keys: &[EntryKey])
         ensures values { (key : Key) → entry_value self.new key
-            ≡ (if is_listed (bytes_of_keys keys.now) key then None else entry_value self.old key) }
+            ≡ (if is_listed keys.now key then None else entry_value self.old key) }
         ensures order { IsInOrder self.old → IsInOrder self.new }
     {
         for listed in keys {
-            self.remove_key(listed.as_slice());
+            self.remove_key(listed);
         }
     }
 
@@ -246,17 +270,17 @@ impl EntryMap {
         ensures { result ≡ may_tag_some self.now keys.now }
     {
         for key in keys.iter() {
-            if self.may_tag(key.as_slice()) {
+            if self.may_tag(key) {
                 return true;
             }
         }
         false
     }
 
-    fn may_tag(&self, key: &[u8]) -> bool
+    fn may_tag(&self, key: &EntryKey) -> bool
         ensures { result ≡ may_tag self.now key.now }
     {
-        if !key.starts_with(SERVER_TAG_PREFIX) {
+        if !key.is_server_tag() {
             return false;
         }
         match self.get(key) {
@@ -270,12 +294,12 @@ impl EntryMap {
         ensures { IsInOrder self.old → self.new ≡ entries_without keys.now self.old }
     {
         for key in keys.iter() {
-            self.remove_key(key.as_slice());
+            self.remove_key(key);
         }
     }
 
     /// Removes the entry at the key, if there is one. Does not allocate.
-    fn remove_key(&mut self, key: &[u8])
+    fn remove_key(&mut self, key: &EntryKey)
         ensures values { (other : Key) → entry_value self.new other
             ≡ (if is_same_key other key.now then None else entry_value self.old other) }
         ensures was_in_order { IsInOrder self.old }
@@ -345,7 +369,7 @@ impl EntryMap {
         let Displaced { key, row } = last;
         match row {
             Some(row) => self.overwrite(key, row),
-            None => self.remove_key(key.as_slice()),
+            None => self.remove_key(&key),
         }
     }
 
@@ -356,15 +380,15 @@ impl EntryMap {
             ≡ (not (has_entry self.now key) && is_listed keys key) }
     {
         for (key, _) in self.iter() {
-            keys.remove(key.as_slice());
+            keys.remove(key);
         }
         keys
     }
 
     /// Puts the row at the key, if the map has an entry there. Does not allocate.
-    fn overwrite(&mut self, key: Vec<u8>, row: Row)
-        ensures value { has_entry self.old key.items ≡ true
-            → self.new ≡ insert_entry (slice_cmp nat_cmp) self.old key.items row }
+    fn overwrite(&mut self, key: EntryKey, row: Row)
+        ensures value { has_entry self.old key ≡ true
+            → self.new ≡ insert_entry (slice_cmp nat_cmp) self.old key row }
         ensures order { IsInOrder self.new }
     {
         let _ = self.values.insert(key, row);
@@ -378,7 +402,7 @@ impl EntryMap {
     {
         let mut before = place;
         for (key, row) in self.iter() {
-            if key.as_slice().starts_with(KEY_SERVERS_PREFIX) {
+            if key.is_key_servers() {
                 if before == 0 {
                     return Some(row);
                 }
@@ -393,16 +417,16 @@ impl EntryMap {
     pub(crate) fn last_serving<'a>(
         &'a self,
         key: &[u8],
-    ) -> Result<Option<(&'a Vec<u8>, &'a Row)>, OutOfMemory>
+    ) -> Result<Option<(&'a EntryKey, &'a Row)>, OutOfMemory>
         ensures found { IfOk result (λ found. option_map lent_entry found
             ≡ last_or None (filter (is_serving_up_to key.now) self.now)) }
         ensures order { IsInOrder self.now }
     {
-        let greatest = key_servers_key(self.alloc, key)?;
+        let greatest = EntryKey::key_servers(self.alloc, key)?;
         let Some((found, row)) = self.values.range(..=&greatest).next_back() else {
             return Ok(None);
         };
-        if !found.as_slice().starts_with(KEY_SERVERS_PREFIX) {
+        if !found.is_key_servers() {
             return Ok(None);
         }
         Ok(Some((found, row)))
@@ -413,13 +437,13 @@ impl EntryMap {
     pub(crate) fn serving_up_to<'a>(
         &'a self,
         key: &[u8],
-    ) -> Result<Range<'a, Vec<u8>, Row>, OutOfMemory>
-        ensures found { IfOk result (λ found. entries_of found
+    ) -> Result<Range<'a, EntryKey, Row>, OutOfMemory>
+        ensures found { IfOk result (λ found. found
             ≡ filter (is_serving_up_to key.now) self.now) }
         ensures order { IsInOrder self.now }
     {
-        let least = key_servers_key(self.alloc, b"")?;
-        let greatest = key_servers_key(self.alloc, key)?;
+        let least = EntryKey::key_servers(self.alloc, b"")?;
+        let greatest = EntryKey::key_servers(self.alloc, key)?;
         let bounds = (Bound::Included(&least), Bound::Included(&greatest));
         Ok(self.values.range(bounds))
     }
@@ -428,19 +452,19 @@ impl EntryMap {
     /// begins with the prefix of keyServers keys. Fails only with `OutOfMemory`.
     pub(crate) fn serving_before<'a>(
         &'a self,
-        key: &Vec<u8>,
-    ) -> Result<Range<'a, Vec<u8>, Row>, OutOfMemory>
-        requires { is_in key_servers_family key.now.items ≡ true }
-        ensures { IfOk result (λ found. entries_of found
-            ≡ filter (is_serving_before key.now.items) self.now) }
+        key: &EntryKey,
+    ) -> Result<Range<'a, EntryKey, Row>, OutOfMemory>
+        requires { is_in key_servers_family key.now ≡ true }
+        ensures { IfOk result (λ found. found
+            ≡ filter (is_serving_before key.now) self.now) }
     {
-        let least = key_servers_key(self.alloc, b"")?;
+        let least = EntryKey::key_servers(self.alloc, b"")?;
         let bounds = (Bound::Included(&least), Bound::Excluded(key));
         Ok(self.values.range(bounds))
     }
 
     /// The entries behind this key, in the order of their keys. Does not allocate.
-    pub(crate) fn behind<'a>(&'a self, key: &Vec<u8>) -> Range<'a, Vec<u8>, Row> {
+    pub(crate) fn behind<'a>(&'a self, key: &EntryKey) -> Range<'a, EntryKey, Row> {
         self.values.range((Bound::Excluded(key), Bound::Unbounded))
     }
 
@@ -459,18 +483,17 @@ impl EntryMap {
         true
     }
 
-    fn is_hidden_run(&self, first: &Vec<u8>, last: &Vec<u8>, hidden: &KeySet) -> bool
+    fn is_hidden_run(&self, first: &EntryKey, last: &EntryKey, hidden: &KeySet) -> bool
         ensures { result ≡ true
-            → IsHiddenRun hidden.now self.now (first.now.items, last.now.items) }
+            → IsHiddenRun hidden.now self.now (first.now, last.now) }
     {
-        let begins = first.as_slice().starts_with(KEY_SERVERS_PREFIX);
-        if !begins || is_key_below(last.as_slice(), first.as_slice()) {
+        if !first.is_key_servers() || last.is_below(first) {
             return false;
         }
         let mut listed = hidden.keys_at_or_after(first);
         let bounds = (Bound::Included(first), Bound::Included(last));
         for (key, _) in self.values.range(bounds) {
-            if !next_key_is(&mut listed, key.as_slice()) {
+            if !next_key_is(&mut listed, key) {
                 return false;
             }
         }
@@ -482,13 +505,13 @@ impl EntryMap {
     pub(crate) fn serving_inside<'a>(
         &'a self,
         range: &KeyRange,
-    ) -> Result<Range<'a, Vec<u8>, Row>, OutOfMemory>
-        ensures found { IfOk result (λ found. entries_of found
+    ) -> Result<Range<'a, EntryKey, Row>, OutOfMemory>
+        ensures found { IfOk result (λ found. found
             ≡ filter (is_serving_inside range.now) self.now) }
         ensures order { IsInOrder self.now }
     {
-        let begin = key_servers_key(self.alloc, range.begin())?;
-        let end = key_servers_key(self.alloc, range.end())?;
+        let begin = EntryKey::key_servers(self.alloc, range.begin())?;
+        let end = EntryKey::key_servers(self.alloc, range.end())?;
         let bounds = (Bound::Excluded(&begin), Bound::Excluded(&end));
         Ok(self.values.range(bounds))
     }
@@ -498,16 +521,16 @@ impl EntryMap {
     /// may be past its end, and then there are none. Fails only with `OutOfMemory`.
     pub(crate) fn serving_after<'a>(
         &'a self,
-        key: &Vec<u8>,
+        key: &EntryKey,
         range: &KeyRange,
-    ) -> Result<Range<'a, Vec<u8>, Row>, OutOfMemory>
-        requires { is_key_below key.now.items (key_servers_family.prefix ++ range.now.begin)
+    ) -> Result<Range<'a, EntryKey, Row>, OutOfMemory>
+        requires { is_key_below key.now (key_servers_family.prefix ++ range.now.begin)
             ≡ false }
-        ensures { IfOk result (λ found. entries_of found
-            ≡ filter (is_serving_after key.now.items range.now) self.now) }
+        ensures { IfOk result (λ found. found
+            ≡ filter (is_serving_after key.now range.now) self.now) }
     {
-        let end = key_servers_key(self.alloc, range.end())?;
-        if is_key_below(key.as_slice(), end.as_slice()) {
+        let end = EntryKey::key_servers(self.alloc, range.end())?;
+        if key.is_below(&end) {
             let bounds = (Bound::Excluded(key), Bound::Excluded(&end));
             Ok(self.values.range(bounds))
         } else {
@@ -532,7 +555,7 @@ impl EntryMap {
 /// the value.
 #[derive(Drop)]
 pub(crate) struct Displaced {
-    key: Vec<u8>,
+    key: EntryKey,
     row: Option<Row>,
 }
 
@@ -541,23 +564,13 @@ impl Model for Displaced {
 
     ghost Value = { Seen };
 
-    ghost view = { λ d. (d.key.items, d.row) };
+    ghost view = { λ d. (d.key, d.row) };
 }
 
 /// Adds what stood at a key to what was displaced before. Does not allocate.
-fn add_displaced(displaced: &mut Vec<Displaced>, key: Vec<u8>, row: Option<Row>)
+fn add_displaced(displaced: &mut Vec<Displaced>, key: EntryKey, row: Option<Row>)
     requires { vec_len displaced.old < vec_capacity displaced.old }
-    ensures { displaced.new.items ≡ displaced.old.items ++ (key.items, row) ∷ [] }
+    ensures { displaced.new.items ≡ displaced.old.items ++ (key, row) ∷ [] }
 {
     displaced.push_reserved(Displaced { key, row });
-}
-
-/// The key of the keyServers entry at a key. Fails only with `OutOfMemory`.
-fn key_servers_key(alloc: Global, key: &[u8]) -> Result<Vec<u8>, OutOfMemory>
-    ensures { IfOk result (λ whole. whole.items ≡ key_servers_family.prefix ++ key.now) }
-{
-    let mut whole = Vec::with_capacity(alloc, KEY_SERVERS_PREFIX.len() + key.len())?;
-    whole.extend_from_slice(KEY_SERVERS_PREFIX)?;
-    whole.extend_from_slice(key)?;
-    Ok(whole)
 }

@@ -41,7 +41,9 @@ impl<'a> Model for EntryView<'a> {
 
     ghost view = { λ v. entries_without v.hidden.now v.entries.now };
 
-    ghost invariant = { λ v. AreHiddenRuns v.hidden.now v.entries.now v.runs.now × GiveTags v.servers.now.tags (entries_without v.hidden.now v.entries.now) × IsInOrder v.entries.now };
+    ghost invariant = { λ v. AreHiddenRuns v.hidden.now v.entries.now v.runs.now
+        × GiveTags v.servers.now.tags (entries_without v.hidden.now v.entries.now)
+        × IsInOrder v.entries.now };
 }
 
 impl<'a> EntryView<'a> {
@@ -103,7 +105,7 @@ impl<'a> EntryView<'a> {
         let Some((found, row)) = self.entries.last_serving(key)? else {
             return Ok(None);
         };
-        if self.hidden.contains(found.as_slice()) {
+        if self.hidden.contains(found) {
             return self.shown_row(key);
         }
         Ok(Some(row))
@@ -116,7 +118,7 @@ impl<'a> EntryView<'a> {
     {
         let mut up_to = self.entries.serving_up_to(key)?;
         while let Some((found, row)) = up_to.next_back() {
-            if !self.hidden.contains(found.as_slice()) {
+            if !self.hidden.contains(found) {
                 return Ok(Some(row));
             }
             if let Some((first, _)) = self.runs.run_of(found) {

@@ -36,8 +36,8 @@ impl JournalFold {
         }
     }
 
-    /// Returns what is left after the next row. Keys and values that no copy of the row shares are
-    /// moved, and not copied. Fails only with `OutOfMemory`; what the rows before left is then dropped.
+    /// Returns what is left after the next row. Values that no copy of the row shares are moved, and
+    /// not copied. Fails only with `OutOfMemory`; what the rows before left is then dropped.
     pub fn apply(self, row: JournalRow) -> Result<JournalFold, OutOfMemory>
         ensures { IfOk result (λ folded. folded ≡ after_journal_row self row) }
     {

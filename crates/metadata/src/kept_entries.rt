@@ -16,6 +16,7 @@ ghost use Rattle.metadata.specs.CachedTags.{IsBlanked, names_server};
 ghost use Rattle.metadata.specs.Started.{after_rows};
 
 use crate::applying::{cleared_keys, is_applied};
+use crate::entry_key::EntryKey;
 use crate::entry_map::{Displaced, EntryMap};
 use crate::key_set::KeySet;
 use crate::server_table::ServerTable;
@@ -24,8 +25,8 @@ use model::{JournalRow, StateTxn};
 use std::alloc::Global;
 use std::marker::Model;
 use system_keys::{
-    Bytes, Change, Items, KeyRange, LOCKED_KEY, METADATA_VERSION_KEY, OutOfMemory,
-    SERVER_TAG_PREFIX, SharedItems, is_kept_key,
+    Bytes, Change, Items, KeyRange, LOCKED_KEY, METADATA_VERSION_KEY, OutOfMemory, SharedItems,
+    is_kept_key,
 };
 
 /// The kept entries in the order of their keys: which storage servers have which keys, their tags,
@@ -164,7 +165,7 @@ impl KeptEntries {
         let own = self.row(LOCKED_KEY);
         match staged.puts.row(LOCKED_KEY) {
             Some(value) => !value.is_empty(),
-            None if staged.cleared.contains(LOCKED_KEY) => false,
+            None if staged.cleared.contains_short(LOCKED_KEY) => false,
             None => match own {
                 Some(value) => !value.is_empty(),
                 None => false,
@@ -187,20 +188,19 @@ impl KeptEntries {
     {
         let empty = Bytes::from(Vec::new(self.entries.alloc()));
         for key in keys.iter() {
-            self.blank_server_tag(key.as_slice(), &empty)?;
+            self.blank_server_tag(key, &empty)?;
         }
         Ok(())
     }
 
-    fn blank_server_tag(&mut self, key: &[u8], empty: &Bytes) -> Result<(), OutOfMemory>
+    fn blank_server_tag(&mut self, key: &EntryKey, empty: &Bytes) -> Result<(), OutOfMemory>
         ensures { OnOk result ((other : Key) → entry_value self.new other
             ≡ (if (names_server other && is_kept_key other) && is_same_key other key.now
             then Some empty.now else entry_value self.old other)) }
     {
-        if key.starts_with(SERVER_TAG_PREFIX) {
-            self.set(key, empty)
-        } else {
-            Ok(())
+        match key.server_tag() {
+            Some(whole) => self.set(whole, empty),
+            None => Ok(()),
         }
     }
 
@@ -250,8 +250,8 @@ impl KeptEntries {
         Ok(self)
     }
 
-    /// The same as `fold_rows` of rows that are given away: keys and values that no copy of the rows
-    /// shares are moved, and not copied. Fails only with `OutOfMemory`; the metadata is then dropped.
+    /// The same as `fold_rows` of rows that are given away: values that no copy of the rows shares are
+    /// moved, and not copied. Fails only with `OutOfMemory`; the metadata is then dropped.
     pub(crate) fn fold_own_rows(
         mut self,
         rows: Items<JournalRow>,
@@ -266,7 +266,7 @@ impl KeptEntries {
         Ok(self)
     }
 
-    /// Applies the transactions as `apply_states` does, and moves keys and values that no copy shares.
+    /// Applies the transactions as `apply_states` does, and moves values that no copy shares.
     /// Fails only with `OutOfMemory`; some of their changes are then applied.
     pub(crate) fn apply_own_states(
         &mut self,
@@ -284,7 +284,7 @@ impl KeptEntries {
         Ok(())
     }
 
-    /// Applies the changes, and moves their keys and values unless a copy of the list shares them.
+    /// Applies the changes, and moves their values unless a copy of the list shares them.
     /// Fails only with `OutOfMemory`; some of the changes are then applied.
     fn apply_shared_changes(&mut self, changes: SharedItems<Change>) -> Result<(), OutOfMemory>
         ensures { OnOk result (self.new ≡ after_changes self.old changes) }
@@ -318,8 +318,9 @@ impl KeptEntries {
     fn set_own(&mut self, key: Bytes, value: Bytes) -> Result<(), OutOfMemory>
         ensures { OnOk result (self.new ≡ after_change self.old (Set key value)) }
     {
-        if is_kept_key(key.as_slice()) {
-            self.entries.put_owned(key.into_vec()?, value)?;
+        let bytes = key.as_slice();
+        if is_kept_key(bytes) {
+            self.entries.put_owned(bytes, value)?;
         }
         Ok(())
     }
@@ -357,7 +358,7 @@ impl KeptEntries {
         ensures order { IsInOrder self.now }
         ensures kept { AreKept self.now }
     {
-        self.entries.get(key)
+        self.entries.value_at(key)
     }
 
     /// Whether the database is locked: the entry `\xff/dbLocked` is there, and its value is not

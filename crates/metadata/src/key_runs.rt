@@ -3,34 +3,33 @@
 ghost use Rattle.std.specs.Prelude.{◌≡◌, [], false, IfSome};
 ghost use Rattle.std.specs.List.{Contains};
 ghost use Rattle.system_keys.specs.Keys.{is_key_below};
-ghost use Rattle.metadata.specs.HiddenRuns.{runs_of};
 
+use crate::entry_key::EntryKey;
 use crate::entry_map::EntryMap;
 use crate::key_set::KeySet;
-use crate::order::is_between;
 use crate::row::Row;
 use std::alloc::Global;
 use std::collections::BTreeMap;
 use std::collections::btree_map::{Iter, Range};
 use std::marker::Model;
 use std::ops::Bound;
-use system_keys::{KEY_SERVERS_PREFIX, OutOfMemory};
+use system_keys::OutOfMemory;
 
 /// Runs of keys. Contracts see the first and the last key of each.
 #[derive(Drop)]
 pub(crate) struct KeyRuns {
     alloc: Global,
     /// The last key of each run at its first key.
-    ends: BTreeMap<Vec<u8>, Vec<u8>>,
+    ends: BTreeMap<EntryKey, EntryKey>,
 }
 
 impl Model for KeyRuns {
     ghost use Rattle.std.specs.Prelude.{List};
-    ghost use Rattle.metadata.specs.HiddenRuns.{Run, runs_of};
+    ghost use Rattle.metadata.specs.HiddenRuns.{Run};
 
     ghost Value = { List Run };
 
-    ghost view = { λ r. runs_of r.ends.entries };
+    ghost view = { λ r. r.ends.entries };
 }
 
 impl KeyRuns {
@@ -58,7 +57,7 @@ impl KeyRuns {
     fn add_runs_of(&mut self, entries: &EntryMap, keys: &KeySet) -> Result<(), OutOfMemory> {
         let mut open = None;
         for key in keys.iter() {
-            if key.as_slice().starts_with(KEY_SERVERS_PREFIX) {
+            if key.is_key_servers() {
                 open = Some(self.run_extended_to(entries, open, key)?);
             }
         }
@@ -74,7 +73,7 @@ impl KeyRuns {
         &mut self,
         entries: &'a EntryMap,
         before: Option<OpenRun<'a>>,
-        key: &'a Vec<u8>,
+        key: &'a EntryKey,
     ) -> Result<OpenRun<'a>, OutOfMemory> {
         let Some(mut run) = before else {
             return Ok(OpenRun::new(entries, key));
@@ -88,33 +87,31 @@ impl KeyRuns {
 
     /// Adds a run with copies of its first and its last key. Fails only with `OutOfMemory`; the runs
     /// are then unchanged.
-    fn add(&mut self, first: &Vec<u8>, last: &Vec<u8>) -> Result<(), OutOfMemory> {
-        let first = Vec::from_slice(self.alloc, first.as_slice())?;
-        let last = Vec::from_slice(self.alloc, last.as_slice())?;
-        self.ends.insert(first, last)?;
+    fn add(&mut self, first: &EntryKey, last: &EntryKey) -> Result<(), OutOfMemory> {
+        self.ends.insert(first.copy()?, last.copy()?)?;
         Ok(())
     }
 
     /// The runs. Does not allocate.
-    pub(crate) fn iter(&self) -> Iter<'_, Vec<u8>, Vec<u8>>
-        ensures { runs_of result ≡ self.now }
+    pub(crate) fn iter(&self) -> Iter<'_, EntryKey, EntryKey>
+        ensures { result ≡ self.now }
     {
         self.ends.iter()
     }
 
     /// The run that begins last at or before the key, if it reaches up to the key. Does not
     /// allocate.
-    pub(crate) fn run_of(&self, key: &Vec<u8>) -> Option<(&Vec<u8>, &Vec<u8>)>
+    pub(crate) fn run_of(&self, key: &EntryKey) -> Option<(&EntryKey, &EntryKey)>
         ensures listed { IfSome result (λ run.
-            Contains self.now (run.0.now.items, run.1.now.items)) }
+            Contains self.now (run.0.now, run.1.now)) }
         ensures begins { IfSome result (λ run.
-            is_key_below key.now.items run.0.now.items ≡ false) }
+            is_key_below key.now run.0.now ≡ false) }
         ensures reaches { IfSome result (λ run.
-            is_key_below run.1.now.items key.now.items ≡ false) }
+            is_key_below run.1.now key.now ≡ false) }
     {
         let bounds = (Bound::Unbounded, Bound::Included(key));
         let (first, last) = self.ends.range(bounds).next_back()?;
-        if is_between(key.as_slice(), first.as_slice(), last.as_slice()) {
+        if key.is_between(first, last) {
             Some((first, last))
         } else {
             None
@@ -125,14 +122,14 @@ impl KeyRuns {
 /// A run that may go on: its first and its last key, and the entries behind these.
 #[derive(Drop)]
 struct OpenRun<'a> {
-    first: &'a Vec<u8>,
-    last: &'a Vec<u8>,
-    behind: Range<'a, Vec<u8>, Row>,
+    first: &'a EntryKey,
+    last: &'a EntryKey,
+    behind: Range<'a, EntryKey, Row>,
 }
 
 impl<'a> OpenRun<'a> {
     /// The run of one key. Does not allocate.
-    fn new(entries: &'a EntryMap, key: &'a Vec<u8>) -> OpenRun<'a> {
+    fn new(entries: &'a EntryMap, key: &'a EntryKey) -> OpenRun<'a> {
         OpenRun {
             first: key,
             last: key,
@@ -141,9 +138,9 @@ impl<'a> OpenRun<'a> {
     }
 
     /// Whether the entry behind the run has the key; it is then the last of the run. Does not allocate.
-    fn extends_to(&mut self, key: &'a Vec<u8>) -> bool {
+    fn extends_to(&mut self, key: &'a EntryKey) -> bool {
         match self.behind.next() {
-            Some((next, _)) if next.as_slice() == key.as_slice() => {
+            Some((next, _)) if next == key => {
                 self.last = key;
                 true
             }

@@ -1,10 +1,10 @@
 //! A set of keys in order.
 
-ghost use Rattle.std.specs.Prelude.{◌≡◌, ◌&&◌, ◌||◌, [], true, OnOk, length, not};
+ghost use Rattle.std.specs.Prelude.{◌≡◌, ◌≤◌, ◌&&◌, ◌||◌, [], true, OnOk, length, not};
 ghost use Rattle.system_keys.specs.Keys.{Key};
-ghost use Rattle.metadata.specs.MapEntries.{bytes_of_keys};
 ghost use Rattle.metadata.specs.Overwrites.{is_same_key, is_listed};
 
+use crate::entry_key::EntryKey;
 use std::alloc::Global;
 use std::collections::BTreeSet;
 use std::collections::btree_set::{Iter, Range};
@@ -16,17 +16,16 @@ use system_keys::OutOfMemory;
 #[derive(Drop)]
 pub(crate) struct KeySet {
     alloc: Global,
-    keys: BTreeSet<Vec<u8>>,
+    keys: BTreeSet<EntryKey>,
 }
 
 impl Model for KeySet {
     ghost use Rattle.std.specs.Prelude.{List};
     ghost use Rattle.system_keys.specs.Keys.{Key};
-    ghost use Rattle.metadata.specs.MapEntries.{bytes_of_keys};
 
     ghost Value = { List Key };
 
-    ghost view = { λ s. bytes_of_keys s.keys.keys };
+    ghost view = { λ s. s.keys.keys };
 }
 
 impl KeySet {
@@ -41,10 +40,19 @@ impl KeySet {
     }
 
     /// Whether the set has the key. Does not allocate.
-    pub(crate) fn contains(&self, key: &[u8]) -> bool
+    pub(crate) fn contains(&self, key: &EntryKey) -> bool
         ensures { result ≡ is_listed self.now key.now }
     {
         self.keys.contains(key)
+    }
+
+    /// Whether the set has the key of these bytes, which are 15 at most. Does not allocate.
+    pub(crate) fn contains_short(&self, key: &[u8]) -> bool
+        requires { length key.now ≤ 15 }
+        ensures { result ≡ is_listed self.now key.now }
+    {
+        let whole = EntryKey::front_of(self.alloc, key);
+        self.contains(&whole)
     }
 
     /// Whether there are no keys. Does not allocate.
@@ -62,15 +70,15 @@ impl KeySet {
     }
 
     /// The keys. Does not allocate.
-    pub(crate) fn iter(&self) -> Iter<'_, Vec<u8>>
-        ensures { bytes_of_keys result ≡ self.now }
+    pub(crate) fn iter(&self) -> Iter<'_, EntryKey>
+        ensures { result ≡ self.now }
     {
         self.keys.iter()
     }
 
     /// The keys from this one on. Does not allocate.
-    pub(crate) fn keys_at_or_after(&self, key: &Vec<u8>) -> Range<'_, Vec<u8>>
-        ensures { (other : Key) → is_listed (bytes_of_keys result) other ≡ true
+    pub(crate) fn keys_at_or_after(&self, key: &EntryKey) -> Range<'_, EntryKey>
+        ensures { (other : Key) → is_listed result other ≡ true
             → is_listed self.now other ≡ true }
     {
         let bounds = (Bound::Included(key), Bound::Unbounded);
@@ -78,17 +86,17 @@ impl KeySet {
     }
 
     /// Adds a copy of the key. Fails only with `OutOfMemory`.
-    pub(crate) fn insert(&mut self, key: &[u8]) -> Result<(), OutOfMemory>
+    pub(crate) fn insert(&mut self, key: &EntryKey) -> Result<(), OutOfMemory>
         ensures { OnOk result ((other : Key)
             → is_listed self.new other ≡ (is_same_key other key.now || is_listed self.old other)) }
     {
-        let key = Vec::from_slice(self.alloc, key)?;
-        self.keys.insert(key)?;
+        let copy = key.copy()?;
+        self.keys.insert(copy)?;
         Ok(())
     }
 
     /// Removes the key. Does not allocate.
-    pub(crate) fn remove(&mut self, key: &[u8])
+    pub(crate) fn remove(&mut self, key: &EntryKey)
         ensures { (other : Key) → is_listed self.new other
             ≡ (not (is_same_key other key.now) && is_listed self.old other) }
     {
@@ -99,13 +107,13 @@ impl KeySet {
 
     /// Adds copies of the keys, from the last to the first: keys that rise are then each compared with
     /// few others. Fails only with `OutOfMemory`; some of them are then added.
-    pub(crate) fn insert_all(&mut self, keys: &[Vec<u8>]) -> Result<(), OutOfMemory>
+    pub(crate) fn insert_all(&mut self, keys: &[EntryKey]) -> Result<(), OutOfMemory>
         ensures { OnOk result ((other : Key) → is_listed self.new other
-            ≡ (is_listed (bytes_of_keys keys.now) other || is_listed self.old other)) }
+            ≡ (is_listed keys.now other || is_listed self.old other)) }
     {
         let mut rest = keys;
         while let Some((key, before)) = rest.split_last() {
-            self.insert(key.as_slice())?;
+            self.insert(key)?;
             rest = before;
         }
         Ok(())
@@ -114,13 +122,13 @@ impl KeySet {
 
 /// Whether the key is the next of these, which is passed over. Does not allocate.
 #[tactic(auto, using(crate::proofs::KeySets::listed_rest))]
-pub(crate) fn next_key_is(keys: &mut Range<'_, Vec<u8>>, key: &[u8]) -> bool
-    ensures found { result ≡ true → is_listed (bytes_of_keys keys.old) key.now ≡ true }
-    ensures rest { (other : Key) → is_listed (bytes_of_keys keys.new) other ≡ true
-        → is_listed (bytes_of_keys keys.old) other ≡ true }
+pub(crate) fn next_key_is(keys: &mut Range<'_, EntryKey>, key: &EntryKey) -> bool
+    ensures found { result ≡ true → is_listed keys.old key.now ≡ true }
+    ensures rest { (other : Key) → is_listed keys.new other ≡ true
+        → is_listed keys.old other ≡ true }
 {
     match keys.next() {
-        Some(next) => next.as_slice() == key,
+        Some(next) => next == key,
         None => false,
     }
 }

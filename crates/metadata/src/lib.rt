@@ -7,6 +7,7 @@
 #![tactic(auto)]
 
 mod applying;
+mod entry_key;
 mod entry_map;
 mod entry_view;
 mod journal_fold;
@@ -17,7 +18,6 @@ mod metadata;
 mod order;
 mod private_copies;
 mod route_walk;
-mod routes;
 mod row;
 mod row_names;
 mod row_tags;

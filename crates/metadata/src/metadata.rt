@@ -25,7 +25,6 @@ use crate::key_runs::KeyRuns;
 use crate::key_set::KeySet;
 use crate::private_copies::find_private_copy;
 use crate::route_walk::RouteWalk;
-use crate::routes::routes;
 use crate::row_tags::RowTags;
 use crate::server_table::ServerTable;
 use crate::staged::Staged;
@@ -364,8 +363,8 @@ impl Metadata {
         Metadata::of(self.entries.fold_rows(rows)?)
     }
 
-    /// The same as [`Metadata::fold_rows`] of rows that are given away: keys and values that no copy
-    /// of the rows shares are moved into the metadata, and not copied.
+    /// The same as [`Metadata::fold_rows`] of rows that are given away: values that no copy of the rows
+    /// shares are moved into the metadata, and not copied.
     ///
     /// Fails only with `OutOfMemory`; the metadata is then dropped.
     pub fn fold_own_rows(self, rows: Items<JournalRow>) -> Result<Metadata, OutOfMemory>
@@ -375,7 +374,8 @@ impl Metadata {
     }
 
     /// The value of the entry at this key, if there is one. The entries are strictly increasing by
-    /// their keys, and each key is kept. Does not allocate.
+    /// their keys, and each key is kept. Does not allocate; takes a step for each entry before it whose
+    /// key begins with the same 15 bytes, behind the prefix of keyServers keys.
     pub fn row(&self, key: &[u8]) -> Option<&[u8]>
         ensures value { option_map (λ value. value.now) result ≡ entry_value self.now key.now }
         ensures order { IsInOrder self.now }
@@ -437,7 +437,7 @@ impl Metadata {
             version,
             locked: self.is_locked(),
             metadata_version: self.entries.metadata_version()?,
-            routes: routes(self.entries.map(), &self.servers)?,
+            routes: self.routes().list(self.entries.map().alloc())?,
         })
     }
 

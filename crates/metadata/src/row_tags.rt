@@ -59,7 +59,10 @@ impl<'a> RowTags<'a> {
     pub(crate) fn add_to(&self, alloc: Global, tags: &mut BTreeSet<Tag>) -> Result<(), OutOfMemory>
         ensures { OnOk result (tags.new.keys ≡ fold (insert_key tag_cmp) tags.old.keys self.now) }
     {
-        gather_row_into(alloc, self.row, self.servers, tags)
+        match self.row.names() {
+            Some(names) => gather_into(names, self.servers, tags),
+            None => put_tags(self.list(alloc)?.as_slice(), tags),
+        }
     }
 }
 
@@ -78,25 +81,6 @@ fn gather_row(
         None => {
             let names = RowNames::of(alloc, servers, row.value())?;
             gather(&names, servers, tags)
-        }
-    }
-}
-
-/// The same, into a set.
-fn gather_row_into(
-    alloc: Global,
-    row: &Row,
-    servers: &ServerTable,
-    tags: &mut BTreeSet<Tag>,
-) -> Result<(), OutOfMemory>
-    ensures { OnOk result (tags.new.keys
-        ≡ fold (insert_key tag_cmp) tags.old.keys (gathered servers.now.tags (names_by row.now))) }
-{
-    match row.names() {
-        Some(names) => gather_into(names, servers, tags),
-        None => {
-            let names = RowNames::of(alloc, servers, row.value())?;
-            gather_into(&names, servers, tags)
         }
     }
 }
@@ -121,7 +105,8 @@ fn gather(names: &RowNames, servers: &ServerTable, tags: &mut TagList) -> Result
     }
 }
 
-/// The same, into a set.
+/// Adds to a set the tags of the servers that are named, or those that are listed, as `gather` does to a
+/// list. Fails only with `OutOfMemory`; some of them may then be added.
 #[tactic(auto, using(crate::proofs::Tags::named_tags, crate::proofs::Tags::listed_both))]
 fn gather_into(
     names: &RowNames,

@@ -9,6 +9,7 @@ ghost use Rattle.model.specs.Metadata.{entry_value};
 ghost use Rattle.metadata.specs.ServerTables.{server_at, AreRefreshed, AreServers, AreServerKeys};
 ghost use Rattle.metadata.specs.ServerTables.{HasPlaces, tag_listed};
 
+use crate::entry_key::EntryKey;
 use crate::entry_map::EntryMap;
 use crate::key_set::KeySet;
 use indexmap::IndexMap;
@@ -99,12 +100,12 @@ impl ServerTable {
         ensures { AreRefreshed keys.now (entry_value entries.now) self.old.tags self.new.tags }
     {
         for key in keys.iter() {
-            self.refresh_key(key.as_slice(), entries);
+            self.refresh_key(key, entries);
         }
     }
 
     /// Reads the serverTag entry at the key anew. Does not allocate.
-    fn refresh_key(&mut self, key: &[u8], entries: &EntryMap)
+    fn refresh_key(&mut self, key: &EntryKey, entries: &EntryMap)
         requires { HasPlaces self.old (key.now ∷ []) (entry_value entries.now) }
         ensures tags { AreRefreshed (key.now ∷ []) (entry_value entries.now)
             self.old.tags self.new.tags }
@@ -125,16 +126,14 @@ impl ServerTable {
 }
 
 /// The server whose serverTag entry has the key.
-fn server_of_tag_key(key: &[u8]) -> Option<[u8; 16]>
+fn server_of_tag_key(key: &EntryKey) -> Option<[u8; 16]>
     ensures found { IfSome result (λ id. key.now ≡ server_tag_family.prefix ++ id) }
     ensures size { IfSome result (λ id. length id ≡ server_id_length) }
     ensures all { (id : Id) → length id ≡ server_id_length
         → key.now ≡ server_tag_family.prefix ++ id → IsSome result }
 {
-    if !key.starts_with(SERVER_TAG_PREFIX) {
-        return None;
-    }
-    let behind = &key[SERVER_TAG_PREFIX.len()..];
+    let whole = key.server_tag()?;
+    let behind = &whole[SERVER_TAG_PREFIX.len()..];
     if behind.len() != 16 {
         return None;
     }

@@ -13,6 +13,7 @@ ghost use Rattle.metadata.specs.SameServers.{HaveSameServers};
 ghost use Rattle.metadata.specs.Started.{after_rows};
 
 use crate::applying::is_applied;
+use crate::entry_key::EntryKey;
 use crate::entry_map::Displaced;
 use crate::kept_entries::KeptEntries;
 use crate::row::Row;
@@ -71,7 +72,8 @@ impl KeptEntries {
         Ok(true)
     }
 
-    /// The same of the transactions, if the lock permits them.
+    /// Puts what the transactions set that the lock permits, in order. Returns false as `put_sets` returns
+    /// None; some of it is then put. Fails only with `OutOfMemory`; some of it may then be put.
     fn put_states(
         &mut self,
         locked: bool,
@@ -93,7 +95,8 @@ impl KeptEntries {
         Ok(true)
     }
 
-    /// The same of a transaction.
+    /// Puts what the transaction sets, if the lock permits it. Returns false as `put_sets` returns None;
+    /// some of it is then put. Fails only with `OutOfMemory`; some of it may then be put.
     fn put_state(
         &mut self,
         locked: bool,
@@ -113,7 +116,8 @@ impl KeptEntries {
         self.put_changes(transaction.mutations.as_slice(), servers, displaced)
     }
 
-    /// The same of the changes.
+    /// Puts what the changes set, in order. Returns false as `put_sets` returns None; some of it is then
+    /// put. Fails only with `OutOfMemory`; some of it may then be put.
     fn put_changes(
         &mut self,
         changes: &[Change],
@@ -133,7 +137,8 @@ impl KeptEntries {
         Ok(true)
     }
 
-    /// The same of a change.
+    /// Puts what the change sets. Returns false as `put_sets` returns None; nothing is then put. Fails only
+    /// with `OutOfMemory`; nothing is then put.
     fn put_change(
         &mut self,
         change: &Change,
@@ -151,7 +156,8 @@ impl KeptEntries {
         }
     }
 
-    /// The same of a Set.
+    /// Puts the value at the key, if the key is kept. Returns false if the key begins like those of
+    /// serverTag entries; nothing is then put. Fails only with `OutOfMemory`; nothing is then put.
     fn put_set(
         &mut self,
         key: &[u8],
@@ -194,7 +200,7 @@ impl KeptEntries {
     {
         // (gives the proof that the entries are in order)
         let alloc = self.map().alloc();
-        let own_key = Vec::from_slice(alloc, key)?;
+        let own_key = EntryKey::new(alloc, key)?;
         let copy = value.copy()?;
         let row = Row::unread(copy);
         self.entries.put_row(own_key, row, servers, displaced)?;

@@ -10,6 +10,7 @@ ghost use Rattle.model.specs.Metadata.{serving_entry, tags, tags_of_key};
 ghost use Rattle.system_keys.specs.ListedTags.{tag_cmp};
 ghost use Rattle.metadata.specs.Overwrites.{is_listed};
 
+use crate::entry_key::EntryKey;
 use crate::entry_view::EntryView;
 use crate::key_set::KeySet;
 use crate::row_tags::RowTags;
@@ -90,16 +91,16 @@ fn add_tags_inside(
 fn add_unless_hidden(
     alloc: Global,
     hidden: &KeySet,
-    key: &Vec<u8>,
+    key: &EntryKey,
     row: &RowTags,
     tags: &mut BTreeSet<Tag>,
 ) -> Result<(), OutOfMemory>
-    ensures hides { is_listed hidden.now key.now.items ≡ true
+    ensures hides { is_listed hidden.now key.now ≡ true
         → OnOk result (tags.new.keys ≡ tags.old.keys) }
-    ensures shows { is_listed hidden.now key.now.items ≡ false
+    ensures shows { is_listed hidden.now key.now ≡ false
         → OnOk result (tags.new.keys ≡ fold (insert_key tag_cmp) tags.old.keys row.now) }
 {
-    if hidden.contains(key.as_slice()) {
+    if hidden.contains(key) {
         return Ok(());
     }
     row.add_to(alloc, tags)

@@ -7,6 +7,7 @@ pub mod Journals
 pub mod Members
 pub mod Metadata
 pub mod Owners
+pub mod Parts
 pub mod Proxies
 pub mod Resolvers
 pub mod Serializability

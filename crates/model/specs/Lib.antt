@@ -14,6 +14,8 @@ pub mod Transactions
 pub mod Owners
 -- what the sequencer gives out with a batch, and what makes records a history
 pub mod Records
+-- the ranges of a transaction, and the part of it that one resolver gets
+pub mod Parts
 -- what each resolver sees of a record: in batch order, whole ranges
 pub mod Shares
 -- what a resolver decides about a part, by all parts before it; the joined verdict

@@ -10,9 +10,9 @@ ghost use Rattle.mutation.specs.Refusals.{refusal_fault};
 
 use crate::admitted::{Admitted, AdmittedMutation};
 use crate::checks::check_transaction;
-use crate::ranges::shared_ranges;
 use crate::refusal::Refusal;
 use crate::transaction::{GivenRange, Mutation, Transaction};
+use model::Ranges;
 use std::alloc::Global;
 use system_keys::{Bytes, Items, KeyRange, OutOfMemory};
 
@@ -52,10 +52,10 @@ fn to_admitted(alloc: Global, transaction: Transaction) -> Result<Admitted, OutO
 {
     Ok(Admitted::of_parts(
         transaction.snapshot,
-        shared_ranges(
+        Ranges::new(
             alloc,
-            to_ranges(alloc, transaction.reads)?,
-            to_ranges(alloc, transaction.writes)?,
+            Items::from(to_ranges(alloc, transaction.reads)?),
+            Items::from(to_ranges(alloc, transaction.writes)?),
         )?,
         to_mutations(alloc, transaction.mutations)?,
         transaction.lock_aware,

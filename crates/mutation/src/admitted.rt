@@ -2,12 +2,10 @@
 
 ghost use Rattle.std.specs.Prelude.{◌≡◌, None, IfOk};
 
-use crate::ranges::Ranges;
 use crate::stamped::{Stamped, into_stamped_changes, stamped_changes};
-use model::{TransactionNumber, Version};
+use model::{Ranges, TransactionNumber, Version};
 use std::alloc::Global;
 use std::marker::Model;
-use std::sync::Arc;
 use system_keys::{Bytes, Items, KeyRange, OutOfMemory};
 
 /// A mutation of an admitted transaction (release 7.1). `Admitted` keeps its limits.
@@ -49,14 +47,13 @@ impl AdmittedMutation {
 pub struct Admitted {
     snapshot: Version,
     /// Those that it reads and writes, which its copies share.
-    ranges: Arc<Ranges>,
+    ranges: Ranges,
     mutations: Items<AdmittedMutation>,
     lock_aware: bool,
 }
 
 impl Model for Admitted {
     ghost use Rattle.std.specs.Prelude.{◌≡◌, None, map};
-    ghost use Rattle.std.specs.Arc.{arc_value};
     ghost use Rattle.model.specs.Stamps.{AdmittedTransaction};
 
     ghost Value = { AdmittedTransaction };
@@ -66,16 +63,16 @@ impl Model for Admitted {
 
     ghost view = { λ t. record {
       snapshot = t.snapshot;
-      reads = (arc_value t.ranges).reads;
-      writes = (arc_value t.ranges).writes;
+      reads = t.ranges.reads;
+      writes = t.ranges.writes;
       mutations = map from_admitted t.mutations;
       lock_aware = t.lock_aware;
     } };
 
     ghost invariant = { λ t. transaction_fault (record {
       snapshot = t.snapshot;
-      reads = (arc_value t.ranges).reads;
-      writes = (arc_value t.ranges).writes;
+      reads = t.ranges.reads;
+      writes = t.ranges.writes;
       mutations = map from_admitted t.mutations;
       lock_aware = t.lock_aware;
     }) ≡ None };
@@ -83,7 +80,6 @@ impl Model for Admitted {
 
 impl Admitted {
     ghost use Rattle.std.specs.Prelude.{map};
-    ghost use Rattle.std.specs.Arc.{arc_value};
     ghost use Rattle.model.specs.Stamps.{AdmittedTransaction, stamped};
     ghost use Rattle.mutation.specs.Admitted.{from_admitted};
     ghost use Rattle.mutation.specs.Faults.{transaction_fault};
@@ -91,21 +87,21 @@ impl Admitted {
     /// Returns the transaction of these parts. Does not allocate.
     pub(crate) fn of_parts(
         snapshot: Version,
-        ranges: Arc<Ranges>,
+        ranges: Ranges,
         mutations: Vec<AdmittedMutation>,
         lock_aware: bool,
     ) -> Admitted
         requires { transaction_fault (record {
           snapshot = snapshot;
-          reads = (arc_value ranges).reads;
-          writes = (arc_value ranges).writes;
+          reads = ranges.reads;
+          writes = ranges.writes;
           mutations = map from_admitted mutations.items;
           lock_aware = lock_aware;
         }) ≡ None }
         ensures { result ≡ record {
           snapshot = snapshot;
-          reads = (arc_value ranges).reads;
-          writes = (arc_value ranges).writes;
+          reads = ranges.reads;
+          writes = ranges.writes;
           mutations = map from_admitted mutations.items;
           lock_aware = lock_aware;
         } }
@@ -130,7 +126,7 @@ impl Admitted {
         ensures value { result.now ≡ self.now.reads }
         ensures limits { transaction_fault self.now ≡ None }
     {
-        self.ranges.reads.as_slice()
+        self.ranges.reads()
     }
 
     /// The ranges that it wants to write.
@@ -138,7 +134,7 @@ impl Admitted {
         ensures value { result.now ≡ self.now.writes }
         ensures limits { transaction_fault self.now ≡ None }
     {
-        self.ranges.writes.as_slice()
+        self.ranges.writes()
     }
 
     /// What it wants to change, in order.
@@ -169,7 +165,7 @@ impl Admitted {
     {
         Ok(Stamped::of_parts(
             self.snapshot,
-            self.ranges.clone()?,
+            self.ranges.copy()?,
             stamped_changes(alloc, version, number, self.mutations.as_slice())?,
             self.lock_aware,
         ))

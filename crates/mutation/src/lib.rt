@@ -10,7 +10,6 @@ mod admitted;
 mod batch;
 mod checks;
 mod laws;
-mod ranges;
 mod refusal;
 mod stamp;
 mod stamped;

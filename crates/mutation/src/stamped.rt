@@ -8,12 +8,10 @@ ghost use Rattle.mutation.specs.Admitted.{from_admitted};
 ghost use Rattle.mutation.specs.Faults.{first_fault, fault_of_mutation};
 
 use crate::admitted::AdmittedMutation;
-use crate::ranges::Ranges;
 use crate::stamp::stamped_value;
-use model::{TransactionNumber, Version};
+use model::{Ranges, TransactionNumber, Version};
 use std::alloc::Global;
 use std::marker::Model;
-use std::sync::Arc;
 use system_keys::{Bytes, Change, Items, KeyRange, OutOfMemory, is_state};
 
 /// A transaction with its stamps in, and so with changes alone (release 7.1). It is within every
@@ -22,14 +20,13 @@ use system_keys::{Bytes, Change, Items, KeyRange, OutOfMemory, is_state};
 pub struct Stamped {
     snapshot: Version,
     /// Those that it reads and writes, which the admitted transaction and all copies share.
-    ranges: Arc<Ranges>,
+    ranges: Ranges,
     changes: Items<Change>,
     lock_aware: bool,
 }
 
 impl Model for Stamped {
     ghost use Rattle.std.specs.Prelude.{◌≡◌, None};
-    ghost use Rattle.std.specs.Arc.{arc_value};
     ghost use Rattle.model.specs.Transactions.{StampedTransaction};
     ghost use Rattle.mutation.specs.Faults.{stamped_fault};
 
@@ -37,43 +34,42 @@ impl Model for Stamped {
 
     ghost view = { λ t. record {
       snapshot = t.snapshot;
-      reads = (arc_value t.ranges).reads;
-      writes = (arc_value t.ranges).writes;
+      reads = t.ranges.reads;
+      writes = t.ranges.writes;
       changes = t.changes;
       lock_aware = t.lock_aware;
     } };
 
     ghost invariant = { λ t. stamped_fault (record {
       snapshot = t.snapshot;
-      reads = (arc_value t.ranges).reads;
-      writes = (arc_value t.ranges).writes;
+      reads = t.ranges.reads;
+      writes = t.ranges.writes;
       changes = t.changes;
       lock_aware = t.lock_aware;
     }) ≡ None };
 }
 
 impl Stamped {
-    ghost use Rattle.std.specs.Arc.{arc_value};
     ghost use Rattle.mutation.specs.Faults.{stamped_fault};
 
     /// Returns the transaction of these parts. Does not allocate.
     pub(crate) fn of_parts(
         snapshot: Version,
-        ranges: Arc<Ranges>,
+        ranges: Ranges,
         changes: Vec<Change>,
         lock_aware: bool,
     ) -> Stamped
         requires { stamped_fault (record {
           snapshot = snapshot;
-          reads = (arc_value ranges).reads;
-          writes = (arc_value ranges).writes;
+          reads = ranges.reads;
+          writes = ranges.writes;
           changes = changes.items;
           lock_aware = lock_aware;
         }) ≡ None }
         ensures { result ≡ record {
           snapshot = snapshot;
-          reads = (arc_value ranges).reads;
-          writes = (arc_value ranges).writes;
+          reads = ranges.reads;
+          writes = ranges.writes;
           changes = changes.items;
           lock_aware = lock_aware;
         } }
@@ -98,7 +94,7 @@ impl Stamped {
         ensures value { result.now ≡ self.now.reads }
         ensures limits { stamped_fault self.now ≡ None }
     {
-        self.ranges.reads.as_slice()
+        self.ranges.reads()
     }
 
     /// The ranges that it wants to write.
@@ -106,7 +102,14 @@ impl Stamped {
         ensures value { result.now ≡ self.now.writes }
         ensures limits { stamped_fault self.now ≡ None }
     {
-        self.ranges.writes.as_slice()
+        self.ranges.writes()
+    }
+
+    /// The ranges that it read, and those that it wants to write, which all copies share.
+    pub fn ranges(&self) -> &Ranges
+        ensures { result.now ≡ record { reads = self.now.reads; writes = self.now.writes } }
+    {
+        &self.ranges
     }
 
     /// What it wants to change, in order.

@@ -1,4 +1,5 @@
 pub mod AskedLists
+pub mod AskedPlaces
 pub mod Built
 pub mod FlaggedLists
 pub mod KeptRule

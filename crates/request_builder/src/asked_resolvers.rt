@@ -7,9 +7,9 @@ ghost use Rattle.dated_owners.specs.Flags.{Flags};
 ghost use Rattle.request_builder.specs.AskedResolvers.{AreReadersBackTo};
 ghost use Rattle.request_builder.specs.AskedResolvers.{AreReaderLists, AreWriterLists};
 ghost use Rattle.request_builder.specs.AskedResolvers.{AreAskedResolvers, AreAllAskedResolvers};
-ghost use Rattle.request_builder.specs.AskedResolvers.{is_in, is_in_some, is_asked_about, asked_by};
+ghost use Rattle.request_builder.specs.AskedResolvers.{is_in_some, is_asked_about, asked_by};
 
-use dated_owners::{OwnerMap, ResolverSet, flag_resolver, flagged_resolvers};
+use dated_owners::{OwnerMap, ResolverFlags, ResolverSet};
 use model::{ResolverNumber, Version};
 use mutation::Stamped;
 use std::alloc::Global;
@@ -149,33 +149,29 @@ fn writer_sets(
 /// The resolvers that get a part of each transaction, in rising order.
 pub(crate) fn asked_lists(
     alloc: Global,
-    resolvers: usize,
+    owners: &OwnerMap,
     askings: &[AskedResolvers],
 ) -> Result<Items<Items<ResolverNumber>>, OutOfMemory>
-    ensures { IfOk result (λ lists. lists ≡ map (asked_by resolvers) askings.now) }
+    ensures { IfOk result (λ lists. lists ≡ map (asked_by owners.now.resolvers) askings.now) }
 {
     let mut lists = Vec::with_capacity(alloc, askings.len())?;
     for asking in askings {
-        lists.push(resolvers_asked_by(alloc, resolvers, asking)?)?;
+        lists.push(resolvers_asked_by(owners, asking).list(alloc)?)?;
     }
     Ok(Items::from(lists))
 }
 
-/// The resolvers that get a part of the transaction, in rising order.
-fn resolvers_asked_by(
-    alloc: Global,
-    resolvers: usize,
-    asking: &AskedResolvers,
-) -> Result<Items<ResolverNumber>, OutOfMemory>
-    ensures { IfOk result (λ list. list ≡ asked_by resolvers asking.now) }
+/// The resolvers that get a part of the transaction.
+fn resolvers_asked_by(owners: &OwnerMap, asking: &AskedResolvers) -> ResolverSet
+    ensures { result ≡ asked_by owners.now.resolvers asking.now }
 {
-    let mut flags = vec![in alloc; asking.is_state; resolvers]?;
+    let mut flags = ResolverFlags::all(asking.is_state);
     flag_asked(asking, &mut flags);
-    flagged_resolvers(alloc, &flags)
+    owners.flagged(flags)
 }
 
 /// Flags the resolvers that are asked about some range.
-fn flag_asked(asking: &AskedResolvers, flags: &mut [bool])
+fn flag_asked(asking: &AskedResolvers, flags: &mut ResolverFlags)
     ensures { Flags flags.old (is_asked_about asking.now) flags.new }
 {
     flag_sets(asking.reads.as_slice(), flags);
@@ -184,21 +180,10 @@ fn flag_asked(asking: &AskedResolvers, flags: &mut [bool])
 }
 
 /// Flags the resolvers of the sets.
-fn flag_sets(sets: &[ResolverSet], flags: &mut [bool])
+fn flag_sets(sets: &[ResolverSet], flags: &mut ResolverFlags)
     ensures { Flags flags.old (λ r. is_in_some r sets.now) flags.new }
 {
     for set in sets {
-        flag_set(set, flags);
-    }
-}
-
-/// Flags the resolvers of the set.
-fn flag_set(set: &ResolverSet, flags: &mut [bool])
-    ensures { Flags flags.old (λ r. is_in r set.now) flags.new }
-{
-    for resolver in 0..flags.len() {
-        if set.has(resolver) {
-            flag_resolver(flags, resolver);
-        }
+        set.flag_in(flags);
     }
 }

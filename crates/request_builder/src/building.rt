@@ -28,7 +28,7 @@ use system_keys::{Items, OutOfMemory};
 /// The map must ask as the record's moves do; otherwise nothing is promised but the rules of the
 /// types. Owners count back to `oldest` or to the map's oldest version, whichever is later
 /// (*profile*). `last_received` is the version of the last record that the proxy had finished when
-/// it began this one, or 0. Each range is looked up in the map once, and copied only for the
+/// it began this one, or 0. Each range is looked up in the map once, and shared with the
 /// resolvers that get it. Fails only with `OutOfMemory`.
 pub fn build(
     alloc: Global,
@@ -47,7 +47,7 @@ pub fn build(
 {
     let askings = all_asked_resolvers(alloc, owners, oldest, rec.batch())?;
     let requests = requests_for_record(alloc, owners.resolvers(), rec, last_received, &askings)?;
-    let asked = asked_lists(alloc, owners.resolvers(), &askings)?;
+    let asked = asked_lists(alloc, owners, &askings)?;
     Ok(Requests { requests, asked })
 }
 

@@ -1,7 +1,8 @@
 //! The parts of a batch's transactions that one resolver gets.
 
-ghost use Rattle.std.specs.Prelude.{◌≡◌, ◌∷◌, ◌++◌, [], if◌then◌else◌, length, filter, IfOk, OnOk};
+ghost use Rattle.std.specs.Prelude.{◌≡◌, ◌∷◌, ◌++◌, [], if◌then◌else◌, length, IfOk, OnOk};
 ghost use Rattle.system_keys.specs.Keys.{only};
+ghost use Rattle.model.specs.Parts.{ArePlacesIn, at_places};
 ghost use Rattle.model.specs.Transactions.{locked_key};
 ghost use Rattle.model.specs.Journal.{list_at};
 ghost use Rattle.request_builder.specs.AskedResolvers.{is_in, ranges_for, part_for, is_part_sent};
@@ -9,7 +10,7 @@ ghost use Rattle.request_builder.specs.AskedResolvers.{sent_part, parts_for};
 
 use crate::asked_resolvers::{AskedResolvers, lock_row_ranges};
 use dated_owners::ResolverSet;
-use model::{Part, ResolverNumber, TransactionNumber};
+use model::{Part, Places, ResolverNumber, TransactionNumber};
 use mutation::Stamped;
 use std::alloc::Global;
 use system_keys::{Items, KeyRange, OutOfMemory};
@@ -47,10 +48,10 @@ fn push_if_sent(parts: &mut Vec<Part>, is_state: bool, part: Part) -> Result<(),
 fn is_part_sent(is_state: bool, part: &Part) -> bool
     ensures { result ≡ is_part_sent is_state part.now }
 {
-    is_state || !part.reads.as_slice().is_empty() || !part.writes.as_slice().is_empty()
+    is_state || part.read_count() != 0 || part.write_count() != 0
 }
 
-/// The part of the transaction that the resolver gets.
+/// The part of the transaction that the resolver gets. It shares the ranges.
 fn part_for(
     alloc: Global,
     resolver: ResolverNumber,
@@ -60,81 +61,54 @@ fn part_for(
 ) -> Result<Part, OutOfMemory>
     ensures { IfOk result (λ part. part ≡ part_for resolver number transaction.now asking.now) }
 {
-    let mut reads = Vec::new(alloc);
-    push_ranges(
-        &mut reads,
-        resolver,
-        transaction.reads(),
-        asking.reads.as_slice(),
-    )?;
-    push_lock_row(alloc, &mut reads, resolver, asking.lock.as_slice())?;
-    let mut writes = Vec::new(alloc);
-    push_ranges(
-        &mut writes,
-        resolver,
-        transaction.writes(),
-        asking.writes.as_slice(),
-    )?;
-    Ok(Part {
-        number,
-        snapshot: transaction.snapshot(),
-        reads: Items::from(reads),
-        writes: Items::from(writes),
-    })
+    let ranges = transaction.ranges().copy()?;
+    let reads = asked_places(alloc, resolver, ranges.reads(), asking.reads.as_slice())?;
+    let lock = asked_lock_row(alloc, resolver, asking.lock.as_slice())?;
+    let writes = asked_places(alloc, resolver, ranges.writes(), asking.writes.as_slice())?;
+    Ok(Part::at_places(number, transaction.snapshot(), ranges, reads, lock, writes))
 }
 
-/// Adds the lock row, if there is a set for it, and that has the resolver.
-fn push_lock_row(
+/// The range of the lock row, if there is a set for it, and that has the resolver.
+fn asked_lock_row(
     alloc: Global,
-    copies: &mut Vec<KeyRange>,
     resolver: ResolverNumber,
     sets: &[ResolverSet],
-) -> Result<(), OutOfMemory>
-    ensures { OnOk result (copies.new.items
-        ≡ copies.old.items ++ ranges_for resolver (only locked_key ∷ []) sets.now) }
+) -> Result<Items<KeyRange>, OutOfMemory>
+    ensures { IfOk result (λ row. row ≡ ranges_for resolver (only locked_key ∷ []) sets.now) }
 {
-    if sets.is_empty() {
-        return Ok(());
+    if is_asked(resolver, sets, 0) {
+        let row = lock_row_ranges(alloc)?;
+        Ok(Items::from(row))
+    } else {
+        Ok(Items::from(Vec::new(alloc)))
     }
-    let row = lock_row_ranges(alloc)?;
-    push_ranges(copies, resolver, &row, sets)
 }
 
-/// Adds copies of the ranges whose sets have the resolver. Room for them is made at once.
-fn push_ranges(
-    copies: &mut Vec<KeyRange>,
+/// The places of the ranges whose sets have the resolver.
+fn asked_places(
+    alloc: Global,
     resolver: ResolverNumber,
     ranges: &[KeyRange],
     sets: &[ResolverSet],
-) -> Result<(), OutOfMemory>
-    ensures { OnOk result
-        (copies.new.items ≡ copies.old.items ++ ranges_for resolver ranges.now sets.now) }
+) -> Result<Places, OutOfMemory>
+    ensures places { IfOk result (λ places. ArePlacesIn ranges.now places) }
+    ensures ranges { IfOk result
+        (λ places. at_places ranges.now places ≡ ranges_for resolver ranges.now sets.now) }
 {
-    copies.reserve(count_sets_with(resolver, sets))?;
-    for (number, range) in ranges.iter().enumerate() {
-        push_if_asked(copies, is_asked(resolver, sets, number), range)?;
+    let mut places = Places::new(alloc);
+    for place in 0..ranges.len() {
+        push_if_asked(&mut places, is_asked(resolver, sets, place), place)?;
     }
-    Ok(())
+    Ok(places)
 }
 
-/// How many of the sets have the resolver.
-fn count_sets_with(resolver: ResolverNumber, sets: &[ResolverSet]) -> usize
-    ensures { result ≡ length (filter (is_in resolver) sets.now) }
-{
-    sets.iter().filter(|set| set.has(resolver)).count()
-}
-
-/// Adds a copy of the range, if it is asked for.
-fn push_if_asked(
-    copies: &mut Vec<KeyRange>,
-    is_asked: bool,
-    range: &KeyRange,
-) -> Result<(), OutOfMemory>
-    ensures { OnOk result (copies.new.items
-        ≡ copies.old.items ++ (if is_asked then range.now ∷ [] else [])) }
+/// Adds the place, if its range is asked for.
+fn push_if_asked(places: &mut Places, is_asked: bool, place: usize) -> Result<(), OutOfMemory>
+    ensures { OnOk result
+        (places.new ≡ places.old ++ (if is_asked then place ∷ [] else [])) }
 {
     if is_asked {
-        copies.push(range.copy()?)?;
+        places.push(place)?;
     }
     Ok(())
 }

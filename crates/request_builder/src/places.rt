@@ -14,11 +14,11 @@ pub(crate) fn place_of(parts: &[Part], number: TransactionNumber) -> Option<usiz
         MatchOption result (Contains numbers number → ⊥)
         (λ place. slice_get numbers place ≡ Some number) }
 {
-    let place = parts.partition_point(|part| part.number < number);
+    let place = parts.partition_point(|part| part.number() < number);
     let Some(part) = parts.get(place) else {
         return None;
     };
-    if part.number == number {
+    if part.number() == number {
         Some(place)
     } else {
         None

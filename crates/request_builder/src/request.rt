@@ -172,10 +172,10 @@ fn part_numbers_rise(parts: &[Part]) -> bool
 {
     let mut last = None;
     for part in parts {
-        if is_at_or_below(part.number, last) {
+        if is_at_or_below(part.number(), last) {
             return false;
         }
-        last = Some(part.number);
+        last = Some(part.number());
     }
     true
 }

@@ -37,7 +37,7 @@ impl Share {
         self.parts.as_slice()
     }
 
-    /// Returns a deep copy. Fails only with `OutOfMemory`.
+    /// Returns a copy, which shares the ranges. Fails only with `OutOfMemory`.
     pub fn copy(&self) -> Result<Share, OutOfMemory>
         ensures { IfOk result (λ copy. copy ≡ self.now) }
     {

@@ -2,3 +2,5 @@
 
 -- what a text in memory is, and where it is placed
 pub mod Texts
+-- what follows of them
+pub mod Laws

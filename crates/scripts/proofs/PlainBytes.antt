@@ -1,5 +1,8 @@
 -- Bytes that are their own characters, and those after them.
-use Rattle.std.proofs.Common.{◌≡◌, ℕ, zero, suc, ◌+◌, ◌<◌, ◌≤◌, true, List, [], ◌∷◌, ◌++◌, length, take, drop, refl, sym, ap, ◌∙◌, append_assoc, length-append, arith}
+use Rattle.std.proofs.Common.{◌≡◌, ℕ, zero, suc, ◌+◌, ◌<◌, ◌≤◌, true, List, [], ◌∷◌, ◌++◌, length, take, drop, not, refl, sym, ap, ◌∙◌, append_assoc, length-append, arith}
+use Rattle.std.specs.Prelude.{◌&&◌, ◌==◌, nat_le}
+use Rattle.std.specs.Str.{IsAscii}
+use Rattle.std.proofs.lemmas.Bool.{and_parts, leb-true}
 use Rattle.std.proofs.lemmas.Grind.{flat_map-append}
 use Rattle.std.proofs.lemmas.List.{take-append-drop}
 use Rattle.system_keys.specs.Text.{ArePlain, byte_text, is_plain, text_of}
@@ -12,6 +15,19 @@ plain_text (suc n) (byte ∷ bytes) within plain =
     let own : is_plain byte ≡ true = plain 0 (omega arith) (omega arith) in
     let rest = plain_text n bytes (omega (arith, within)) (λ i from below. plain (suc i) (omega arith) (omega (arith, below))) in
     rw (own, rest) refl
+
+plain_small : (byte : ℕ) → is_plain byte ≡ true → byte < 128
+plain_small byte own =
+    let parts = and_parts (nat_le 33 byte && nat_le byte 126 && not (byte == 34)) (not (byte == 92)) own in
+    let more = and_parts (nat_le 33 byte && nat_le byte 126) (not (byte == 34)) parts.0 in
+    let up = leb-true byte 126 (and_parts (nat_le 33 byte) (nat_le byte 126) more.0).1 in
+    omega (arith, up)
+
+pub plain_ascii : (n : ℕ) (bytes : List ℕ) → ArePlain bytes 0 n → IsAscii (take n bytes)
+plain_ascii zero bytes plain i = omega arith
+plain_ascii (suc n) [] plain i = omega arith
+plain_ascii (suc n) (byte ∷ bytes) plain zero = plain_small byte (plain 0 (omega arith) (omega arith))
+plain_ascii (suc n) (byte ∷ bytes) plain (suc i) = plain_ascii n bytes (λ j from below. plain (suc j) (omega arith) (omega (arith, below))) i
 
 pub split_whole : (n : ℕ) (bytes : List ℕ) → take n bytes ++ drop n bytes ≡ bytes
 split_whole n bytes = take-append-drop n bytes

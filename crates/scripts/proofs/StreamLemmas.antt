@@ -1,9 +1,7 @@
 -- Values of a shape, as their tokens come.
-use Rattle.std.proofs.Common.{◌≡◌, ◌<◌, ◌≤◌, ℕ, Bool, false, List, ◌∷◌, length, refl, ap}
-use Rattle.std.specs.Prelude.{Option, Some, None, option_map, option_and_then, ◌^◌, ◌==◌, slice_index, IfSome}
-use Rattle.std.specs.Option.{SomeIff}
-use Rattle.std.proofs.lemmas.Bool.{le-leb, lt-ltb}
-use Rattle.fast_float.specs.Text.{IsInteger, digits_of, minus, scan}
+use Rattle.std.proofs.Common.{◌≡◌, ◌<◌, ◌≤◌, ℕ, Bool, List, ◌∷◌, length, refl, ap}
+use Rattle.std.specs.Prelude.{Option, Some, None, option_map, option_and_then}
+use Rattle.std.proofs.lemmas.Bool.{le-leb}
 use Rattle.json.specs.Token.{Token}
 use Rattle.json.specs.Json as json
 use Rattle.json.specs.Json.{value}
@@ -74,18 +72,3 @@ takes_bool depth b old new first = rw (first, value_is depth (Token.boolean b �
 pub takes_number : (depth : ℕ) (text : List ℕ) (n : ℕ) (old new : List Token)
     → old ≡ Token.number text ∷ new → number_of text ≡ Some (unsigned n) → n ≤ number_limit → Takes number_shape depth old n new
 takes_number depth text n old new first is within = rw (first, value_is depth (Token.number text ∷ new), is, le-leb n number_limit within) refl
-
--- ---- numbers
-
-parse_whole_number : (s : List ℕ) (n : ℕ) → (slice_index s 0 == minus) ≡ false → IsInteger (scan s) → digits_of (scan s) < 2 ^ 64 → n ≡ digits_of (scan s) → number_of s ≡ Some (unsigned n)
-unfolding number_of
-parse_whole_number s n plain whole fits is =
-    let some = lt-ltb 0 (length (scan s).whole) whole.0 in
-    let within = lt-ltb (digits_of (scan s)) (2 ^ 64) fits in
-    rw (plain, is, some, whole.1, whole.2, within) refl
-
--- the number that digits without a sign write
-pub number_scanned : (s : List ℕ) (read : Option ℕ) → (slice_index s 0 == minus) ≡ false → SomeIff read (IsInteger (scan s) × (digits_of (scan s) < 2 ^ 64)) (digits_of (scan s))
-    → IfSome read (λ n. number_of s ≡ Some (unsigned n))
-number_scanned s None plain is = tt
-number_scanned s (Some n) plain is = parse_whole_number s n plain is.0.0 is.0.1 is.1

@@ -82,7 +82,7 @@ takes_list shape depth old inside new xs first some taken =
 -- ---- a list of two
 
 -- a value does not begin with the bracket that closes a list
-no_end : {X : Type 0} (shape : Data → Option X) (depth : ℕ) (ts : List Token) (x : X) (new : List Token) → Takes shape depth ts x new → after_end_array ts ≡ None
+pub no_end : {X : Type 0} (shape : Data → Option X) (depth : ℕ) (ts : List Token) (x : X) (new : List Token) → Takes shape depth ts x new → after_end_array ts ≡ None
 no_end shape depth [] x new taken = refl
 no_end shape depth (Token.begin_object ∷ ts) x new taken = refl
 no_end shape depth (Token.end_object ∷ ts) x new taken = refl

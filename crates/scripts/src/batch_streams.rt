@@ -10,28 +10,20 @@ ghost use Rattle.scripts.specs.Streams.{Slot, one};
 use crate::stream_objects::{Fields, take_into_slot, take_object};
 use crate::stream_shapes::take_pair;
 use crate::streams::Streamed;
-use json::Reader as TokenReader;
 use mutation::{GivenRange, Mutation, Transaction};
+use script_tokens::Tokens;
 use std::alloc::Global;
 use system_keys::Items;
 
 impl Streamed for GivenRange {
-    fn from_tokens(
-        alloc: Global,
-        reader: &mut TokenReader<'_>,
-        depth: usize,
-    ) -> Option<GivenRange> {
+    fn from_tokens(alloc: Global, reader: &mut Tokens<'_>, depth: usize) -> Option<GivenRange> {
         let (begin, end) = take_pair(alloc, reader, depth)?;
         Some(GivenRange { begin, end })
     }
 }
 
 impl Streamed for Transaction {
-    fn from_tokens(
-        alloc: Global,
-        reader: &mut TokenReader<'_>,
-        depth: usize,
-    ) -> Option<Transaction> {
+    fn from_tokens(alloc: Global, reader: &mut Tokens<'_>, depth: usize) -> Option<Transaction> {
         let fields: TransactionFields = take_object(alloc, reader, depth)?;
         Some(Transaction {
             snapshot: fields.snapshot?,
@@ -75,7 +67,7 @@ impl Fields for TransactionFields {
     fn take_field(
         &mut self,
         alloc: Global,
-        reader: &mut TokenReader<'_>,
+        reader: &mut Tokens<'_>,
         depth: usize,
         name: &str,
     ) -> Option<()> {

@@ -3,14 +3,14 @@
 use crate::raw_change::RawChange;
 use crate::stream_objects::take_object_of_pair;
 use crate::streams::Streamed;
-use json::Reader as TokenReader;
 use mutation::Mutation;
+use script_tokens::Tokens;
 use std::alloc::Global;
 
 impl Streamed for RawChange {
-    fn from_tokens(alloc: Global, reader: &mut TokenReader<'_>, depth: usize) -> Option<RawChange> {
+    fn from_tokens(alloc: Global, reader: &mut Tokens<'_>, depth: usize) -> Option<RawChange> {
         let (name, (first, second)) = take_object_of_pair(alloc, reader, depth)?;
-        match name {
+        match name.as_str() {
             "set" => Some(RawChange::Set {
                 key: first,
                 value: second,
@@ -25,9 +25,9 @@ impl Streamed for RawChange {
 }
 
 impl Streamed for Mutation {
-    fn from_tokens(alloc: Global, reader: &mut TokenReader<'_>, depth: usize) -> Option<Mutation> {
+    fn from_tokens(alloc: Global, reader: &mut Tokens<'_>, depth: usize) -> Option<Mutation> {
         let (name, (first, second)) = take_object_of_pair(alloc, reader, depth)?;
-        match name {
+        match name.as_str() {
             "set" => Some(Mutation::Set {
                 key: first,
                 value: second,

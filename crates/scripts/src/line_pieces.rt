@@ -1,10 +1,10 @@
 //! Pieces of lines: numbers, bytes between quotes, tags and refusals.
 
-ghost use Rattle.std.specs.Prelude.{◌≡◌, ◌++◌, ◌∷◌, [], ◌<◌, ◌≤◌, ◌/◌, ◌%◌, OnOk, Some, codes};
-ghost use Rattle.std.specs.Prelude.{drop, length, string_bytes, take};
+ghost use Rattle.std.specs.Prelude.{◌≡◌, ◌++◌, ◌∷◌, [], ◌<◌, ◌/◌, ◌%◌, OnOk, Some, codes};
+ghost use Rattle.std.specs.Prelude.{drop, string_bytes, take};
 ghost use Rattle.std.specs.Fmt.{decimal};
 ghost use Rattle.std.specs.Char.{digit_char};
-ghost use Rattle.system_keys.specs.Text.{ArePlain, byte_text, is_plain, text_of};
+ghost use Rattle.system_keys.specs.Text.{byte_text, text_of};
 ghost use Rattle.pages.specs.Printing.{Prints};
 ghost use Rattle.scripts.specs.Lines.{number_or_none, quoted, refused_text, spaced, tag_text};
 
@@ -13,7 +13,7 @@ use crate::words::Word;
 use itoa::Buffer;
 use pages::Page;
 use std::str;
-use system_keys::{OutOfMemory, Tag};
+use system_keys::{OutOfMemory, Tag, hex_digit, is_plain, plain_front_length};
 
 /// Appends the words, and after them the number.
 #[tactic(auto, using(pages::proofs::Prints::prints_both))]
@@ -71,23 +71,11 @@ fn split_plain(bytes: &[u8]) -> (&str, &[u8])
     ensures whole { result.0.now ++ result.1.now ≡ bytes.now }
     ensures plain { text_of result.0.now ≡ result.0.now }
 {
-    let (plain, behind) = bytes.split_at(plain_length(bytes));
+    let (plain, behind) = bytes.split_at(plain_front_length(bytes));
     match str::from_utf8(plain) {
         Ok(characters) => (characters, behind),
-        Err(_) => ("", bytes),
+        Err(_) => unreachable!(),
     }
-}
-
-/// How many bytes at the front are their own characters.
-fn plain_length(bytes: &[u8]) -> usize
-    ensures within { result ≤ length bytes.now }
-    ensures plain { ArePlain bytes.now 0 result }
-{
-    let mut length = 0usize;
-    while length < bytes.len() && is_plain(bytes[length]) {
-        length += 1;
-    }
-    length
 }
 
 /// Appends the text of the first byte, if there is one, and returns the bytes after it.
@@ -116,13 +104,6 @@ fn push_byte<P: Page>(page: &mut P, byte: u8)
     }
 }
 
-/// Whether the byte is its own character.
-fn is_plain(byte: u8) -> bool
-    ensures { result ≡ is_plain byte }
-{
-    byte.is_ascii_graphic() && byte != b'"' && byte != b'\\'
-}
-
 /// Appends `\x` and the two hexadecimal digits of a byte.
 #[tactic(auto, using(pages::proofs::Prints::prints_both))]
 fn push_escape<P: Page>(page: &mut P, byte: u8)
@@ -141,17 +122,6 @@ fn push_ascii<P: Page>(page: &mut P, character: char)
 {
     let mut bytes = [0u8; 4];
     page.push(character.encode_utf8(&mut bytes));
-}
-
-fn hex_digit(value: u8) -> char
-    requires { value < 16 }
-    ensures value { result ≡ digit_char value }
-    ensures ascii { result < 128 }
-{
-    match char::from_digit(u32::from(value), 16) {
-        Some(digit) => digit,
-        None => unreachable!(),
-    }
 }
 
 /// Appends the number of a refusal, or `none`, and its name.

@@ -1,15 +1,16 @@
 //! Objects, as their tokens come: their fields in any order, each once.
 
 ghost use Rattle.std.specs.Prelude.{◌≡◌, IfSome, Some};
+ghost use Rattle.std.specs.Cow.{cow_str_bytes};
 ghost use Rattle.serde_json.specs.Data.{Data, Members, member, no_members, object, put};
 ghost use Rattle.scripts.specs.Shapes.{pair_shape};
 ghost use Rattle.scripts.specs.Streams.{TakesData, TakesField, TakesMembers};
 
 use crate::stream_shapes::take_pair;
-use crate::stream_tokens::{take_begin_object, take_end_object};
 use crate::streams::Streamed;
-use json::Reader as TokenReader;
+use script_tokens::Tokens;
 use std::alloc::Global;
+use std::borrow::CowStr;
 use system_keys::Bytes;
 
 /// What is held of the fields of an object while they come.
@@ -25,7 +26,7 @@ pub trait Fields: Drop {
     fn take_field(
         &mut self,
         alloc: Global,
-        reader: &mut TokenReader<'_>,
+        reader: &mut Tokens<'_>,
         depth: usize,
         name: &str,
     ) -> Option<()>
@@ -35,28 +36,25 @@ pub trait Fields: Drop {
 
 /// Takes the tokens of an object, and returns what is held of its fields. Returns `None` as
 /// `Fields` and `Streamed` do.
-pub fn take_object<F: Fields>(
-    alloc: Global,
-    reader: &mut TokenReader<'_>,
-    depth: usize,
-) -> Option<F>
+pub fn take_object<F: Fields>(alloc: Global, reader: &mut Tokens<'_>, depth: usize) -> Option<F>
     ensures { IfSome result (λ fields. (ms : Members)
         × TakesData depth reader.old (object ms) reader.new × F.holds fields ms) }
 {
-    if depth == 0 || !take_begin_object(reader) {
+    if depth == 0 || !reader.take_begin_object() {
         return None;
     }
     take_fields(alloc, reader, depth - 1)
 }
 
 // The fields of an object up to the brace that closes it.
-fn take_fields<F: Fields>(alloc: Global, reader: &mut TokenReader<'_>, depth: usize) -> Option<F>
+fn take_fields<F: Fields>(alloc: Global, reader: &mut Tokens<'_>, depth: usize) -> Option<F>
     ensures { IfSome result (λ fields. (ms : Members)
         × TakesMembers depth reader.old ms reader.new × F.holds fields ms) }
 {
     let mut fields = F::none();
-    'fields: while let Some(name) = reader.next_key().ok()? {
-        fields.take_field(alloc, reader, depth, name)?;
+    'fields: while !reader.take_end_object() {
+        let name = reader.take_key(alloc)?;
+        fields.take_field(alloc, reader, depth, name.as_str())?;
     }
     Some(fields)
 }
@@ -66,7 +64,7 @@ fn take_fields<F: Fields>(alloc: Global, reader: &mut TokenReader<'_>, depth: us
 pub fn take_into_slot<X: Streamed>(
     slot: &mut Option<X>,
     alloc: Global,
-    reader: &mut TokenReader<'_>,
+    reader: &mut Tokens<'_>,
     depth: usize,
 ) -> Option<()>
     ensures { IfSome result
@@ -82,19 +80,19 @@ pub fn take_into_slot<X: Streamed>(
 // The name of the only field of an object, and what the list of two texts in it stands for.
 pub(crate) fn take_object_of_pair<'a>(
     alloc: Global,
-    reader: &mut TokenReader<'a>,
+    reader: &mut Tokens<'a>,
     depth: usize,
-) -> Option<(&'a str, (Bytes, Bytes))>
+) -> Option<(CowStr<'a>, (Bytes, Bytes))>
     ensures { IfSome result (λ named. (d : Data)
-        × TakesData depth reader.old (object (member named.0.now d no_members)) reader.new
+        × TakesData depth reader.old (object (member (cow_str_bytes named.0) d no_members)) reader.new
         × (pair_shape d ≡ Some named.1)) }
 {
-    if depth == 0 || !take_begin_object(reader) {
+    if depth == 0 || !reader.take_begin_object() {
         return None;
     }
-    let name = reader.next_key().ok()??;
+    let name = reader.take_key(alloc)?;
     let pair = take_pair(alloc, reader, depth - 1)?;
-    if take_end_object(reader) {
+    if reader.take_end_object() {
         Some((name, pair))
     } else {
         None

@@ -5,27 +5,21 @@ ghost use Rattle.scripts.specs.Shapes.{pair_shape};
 ghost use Rattle.scripts.specs.Streams.{Takes, TakesEach};
 
 use crate::shaped::NUMBER_LIMIT;
-use crate::stream_tokens::{parse_whole_number, take_begin_array, take_digits, take_text};
 use crate::streams::Streamed;
-use json::{Reader as TokenReader, Token};
 use model::Verdict;
+use script_tokens::Tokens;
 use std::alloc::Global;
 use system_keys::{Bytes, Items};
 
 impl Streamed for bool {
-    #[tactic(auto, using(crate::proofs::StreamLemmas::takes_bool))]
-    fn from_tokens(_alloc: Global, reader: &mut TokenReader<'_>, _depth: usize) -> Option<bool> {
-        match reader.next()? {
-            Token::Bool(value) => Some(value),
-            _ => None,
-        }
+    fn from_tokens(_alloc: Global, reader: &mut Tokens<'_>, _depth: usize) -> Option<bool> {
+        reader.take_bool()
     }
 }
 
 impl Streamed for u64 {
-    fn from_tokens(_alloc: Global, reader: &mut TokenReader<'_>, _depth: usize) -> Option<u64> {
-        let digits = take_digits(reader)?;
-        let number = parse_whole_number(digits)?;
+    fn from_tokens(_alloc: Global, reader: &mut Tokens<'_>, _depth: usize) -> Option<u64> {
+        let number = reader.take_number()?;
         if number <= NUMBER_LIMIT {
             Some(number)
         } else {
@@ -35,23 +29,21 @@ impl Streamed for u64 {
 }
 
 impl Streamed for usize {
-    fn from_tokens(alloc: Global, reader: &mut TokenReader<'_>, depth: usize) -> Option<usize> {
+    fn from_tokens(alloc: Global, reader: &mut Tokens<'_>, depth: usize) -> Option<usize> {
         let number = u64::from_tokens(alloc, reader, depth)?;
         Some(number as usize)
     }
 }
 
 impl Streamed for Bytes {
-    #[tactic(auto, using(crate::proofs::StreamLemmas::takes_text))]
-    fn from_tokens(alloc: Global, reader: &mut TokenReader<'_>, _depth: usize) -> Option<Bytes> {
-        let text = take_text(reader)?;
-        Bytes::from_text(alloc, text).ok()
+    fn from_tokens(alloc: Global, reader: &mut Tokens<'_>, _depth: usize) -> Option<Bytes> {
+        reader.take_bytes(alloc)
     }
 }
 
 impl Streamed for Verdict {
-    fn from_tokens(_alloc: Global, reader: &mut TokenReader<'_>, _depth: usize) -> Option<Verdict> {
-        match take_text(reader)? {
+    fn from_tokens(alloc: Global, reader: &mut Tokens<'_>, _depth: usize) -> Option<Verdict> {
+        match reader.take_text(alloc)?.as_str() {
             "conflict" => Some(Verdict::Conflict),
             "too_old" => Some(Verdict::TooOld),
             "committed" => Some(Verdict::Committed),
@@ -62,8 +54,8 @@ impl Streamed for Verdict {
 
 impl<X: Streamed> Streamed for Items<X> {
     #[tactic(auto, using(crate::proofs::StreamListLemmas::takes_list))]
-    fn from_tokens(alloc: Global, reader: &mut TokenReader<'_>, depth: usize) -> Option<Items<X>> {
-        if depth == 0 || !take_begin_array(reader) {
+    fn from_tokens(alloc: Global, reader: &mut Tokens<'_>, depth: usize) -> Option<Items<X>> {
+        if depth == 0 || !reader.take_begin_array() {
             return None;
         }
         let items = take_each(alloc, reader, depth - 1)?;
@@ -72,11 +64,7 @@ impl<X: Streamed> Streamed for Items<X> {
 }
 
 // The items of a list up to the bracket that closes it.
-fn take_each<X: Streamed>(
-    alloc: Global,
-    reader: &mut TokenReader<'_>,
-    depth: usize,
-) -> Option<Vec<X>>
+fn take_each<X: Streamed>(alloc: Global, reader: &mut Tokens<'_>, depth: usize) -> Option<Vec<X>>
     ensures { IfSome result (λ found. TakesEach X.shape depth reader.old found.items reader.new) }
 {
     let mut found = Vec::new(alloc);
@@ -91,12 +79,12 @@ fn take_each<X: Streamed>(
 #[tactic(auto, using(crate::proofs::StreamListLemmas::takes_pair))]
 pub(crate) fn take_pair(
     alloc: Global,
-    reader: &mut TokenReader<'_>,
+    reader: &mut Tokens<'_>,
     depth: usize,
 ) -> Option<(Bytes, Bytes)>
     ensures { IfSome result (λ pair. Takes pair_shape depth reader.old pair reader.new) }
 {
-    if depth == 0 || !take_begin_array(reader) {
+    if depth == 0 || !reader.take_begin_array() {
         return None;
     }
     let first = Bytes::from_tokens(alloc, reader, depth - 1)?;

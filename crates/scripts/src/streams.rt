@@ -7,7 +7,7 @@ ghost use Rattle.scripts.specs.Streams.{Takes, TakesData};
 ghost use Rattle.scripts.specs.Values.{value_of};
 
 use crate::shaped::Shaped;
-use json::{Reader as TokenReader, Scratch};
+use script_tokens::Tokens;
 use std::alloc::Global;
 
 // How deep lists and objects may nest: as deep as `serde_json` reads them.
@@ -17,10 +17,10 @@ const DEPTH_LIMIT: usize = 127;
 pub trait Streamed: Shaped {
     /// Takes the tokens of one value, which may nest `depth` deep, and returns what it stands for.
     ///
-    /// Returns `None` if the value does not have the shape, if a field is repeated, if a number
-    /// is not written in digits alone, or if an allocation fails. Then the caller reads the JSON
-    /// value.
-    fn from_tokens(alloc: Global, reader: &mut TokenReader<'_>, depth: usize) -> Option<Self>
+    /// Returns `None` if the value does not have the shape, if a field is repeated, if the script is
+    /// written in a way that `Tokens` does not know, or if an allocation fails. Then the caller reads
+    /// the JSON value.
+    fn from_tokens(alloc: Global, reader: &mut Tokens<'_>, depth: usize) -> Option<Self>
         ensures { IfSome result (λ found. Takes Self.shape depth reader.old found reader.new) };
 }
 
@@ -30,7 +30,7 @@ pub trait MadeOfTokens: Drop {
 
     /// Takes the tokens of one value, which may nest `depth` deep, and returns what is made of it.
     /// Returns `None` as `Streamed` does.
-    fn make(alloc: Global, reader: &mut TokenReader<'_>, depth: usize) -> Option<Self>
+    fn make(alloc: Global, reader: &mut Tokens<'_>, depth: usize) -> Option<Self>
         ensures { IfSome result (λ made. (d : Data)
             × TakesData depth reader.old d reader.new × is_made_of made d) };
 }
@@ -62,13 +62,9 @@ pub fn make_of_tokens<X: MadeOfTokens>(alloc: Global, bytes: &[u8]) -> Option<X>
 fn make_of_text<X: MadeOfTokens>(alloc: Global, text: &str) -> Option<X>
     ensures { IfSome result (λ made. (d : Data) × (read text.now ≡ Some d) × X.is_made_of made d) }
 {
-    let mut scratch = Scratch::new(alloc);
-    let mut reader = TokenReader::new(text, &mut scratch).ok()?;
+    let mut reader = Tokens::new(text);
     let made = X::make(alloc, &mut reader, DEPTH_LIMIT)?;
-    match reader.next() {
-        None => Some(made),
-        Some(_) => None,
-    }
+    if reader.is_at_end() { Some(made) } else { None }
 }
 
 // A value of a shape, which is made of the value that it stands for.
@@ -81,7 +77,7 @@ impl<X: Streamed> MadeOfTokens for Shown<X> {
     ghost is_made_of = { λ found d. X.shape d ≡ Some found.value };
 
     #[tactic(auto, using(crate::proofs::StreamLemmas::taken_data))]
-    fn make(alloc: Global, reader: &mut TokenReader<'_>, depth: usize) -> Option<Shown<X>> {
+    fn make(alloc: Global, reader: &mut Tokens<'_>, depth: usize) -> Option<Shown<X>> {
         let value = X::from_tokens(alloc, reader, depth)?;
         Some(Shown { value })
     }

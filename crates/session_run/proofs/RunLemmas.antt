@@ -1,14 +1,18 @@
 -- A session over a source and a sink.
-use Rattle.std.proofs.Common.{◌≡◌, ℕ, IfSome, List, None, Option, Some, subst}
+use Rattle.std.proofs.Common.{◌≡◌, ◌+◌, ◌<◌, ◌++◌, ◌-◌, ◌^◌, ℕ, IfSome, List, None, Option, Some, subst, arith, ◌∙◌}
 use Rattle.std.specs.Io.KnownBytes.{Appends, Consumes}
 use Rattle.std.specs.Prelude.{MatchOption}
 use Rattle.model.specs.Serial.{IsSerial}
 use Rattle.model.specs.Turns.{TurnCluster}
+use Rattle.scripts.specs.Devices.{IsIncremented}
 use Rattle.sessions.proofs.Corollaries.{in_turn_at, whole_run}
+use Rattle.sessions.proofs.LawLemmas.{never_writes_ahead, status_tells}
 use Rattle.sessions.specs.Events.{Event, View, bytes_came, bytes_written}
-use Rattle.sessions.specs.Sessions.{AnswersBeforeReads, AnswersWhole, IsAnsweredAtReads, IsSession}
+use Rattle.sessions.specs.Laws.{ReadFailsMore, WriteFailsMore}
+use Rattle.sessions.specs.Sessions.{AnswersBeforeReads, AnswersWhole, IsAnsweredAtReads, IsSession, LeavesFailures, NeverAhead}
 use Rattle.sessions.specs.declared.status.SessionStatus.{SessionStatus}
-use Rattle.session_run.specs.Runs.{AnswersInput, RunsSession}
+use Rattle.sessions.specs.declared.status.SessionStatus.TheVariants.{Done, ReadFailed, WriteFailed, Unended}
+use Rattle.session_run.specs.Runs.{AnswersInput, ReadFails, RunsLeaveSerial, RunsNeverWriteAhead, RunsSession, StatusTellsCounts, WriteFails}
 use Rattle.session_run.specs.Session.{State, session_rules}
 
 abbrev pub IsSerialIfBegun : State → Type 0
@@ -45,3 +49,24 @@ runs_in_turn input rest old new status run = (run.events, run.read, run.written,
 
 pub runs_answer : (input rest old new : Option (List ℕ)) (status : SessionStatus) → RunsSession input rest old new status → AnswersInput input old new status
 runs_answer input rest old new status run = (run.now, whole_run session_rules None run.now input rest old new status run.events run.read run.end run.written run.ends)
+
+pub runs_behind : RunsNeverWriteAhead
+runs_behind input rest old new status run =
+    (run.events, run.read, run.written, λ after before split. never_writes_ahead session_rules None after before (subst (NeverAhead session_rules None) split run.never_ahead))
+
+pub runs_serial : RunsLeaveSerial
+runs_serial input rest old new status run = (run.events, run.now, run.ends, run.serial)
+
+-- ---- counts of failed calls
+
+one_more : (old new : ℕ) → IsIncremented old new → old < 2 ^ 64 - 1 → new ≡ old + 1
+one_more old new more below = omega (arith, more, below)
+
+fails_more : (old new : ℕ × ℕ) (status : SessionStatus) → old.0 < 2 ^ 64 - 1 → old.1 < 2 ^ 64 - 1 → LeavesFailures ReadFails WriteFails old new status → LeavesFailures ReadFailsMore WriteFailsMore old new status
+fails_more old new Done reads writes leaves = leaves
+fails_more old new ReadFailed reads writes leaves = (one_more old.0 new.0 leaves.0 reads, leaves.1)
+fails_more old new WriteFailed reads writes leaves = (leaves.0, one_more old.1 new.1 leaves.1 writes)
+fails_more old new Unended reads writes leaves = leaves
+
+pub status_tells_counts : StatusTellsCounts
+status_tells_counts old new status leaves reads writes = status_tells old new status (fails_more old new status reads writes leaves)

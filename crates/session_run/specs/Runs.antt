@@ -1,13 +1,14 @@
 -- What a session over a source and a sink leaves (this project's profile).
-use Rattle.std.specs.Prelude.{◌≡◌, ℕ, IfSome, List, None, Option}
+use Rattle.std.specs.Prelude.{◌≡◌, ◌≢◌, ◌<◌, ◌↔◌, ◌++◌, ◌-◌, ◌^◌, ℕ, IfSome, List, None, Option}
 use Rattle.std.specs.Io.KnownBytes.{Appends, Consumes, IsAtEnd}
 use Rattle.model.specs.Serial.{IsSerial}
 use Rattle.model.specs.Turns.{TurnCluster}
 use Rattle.scripts.specs.Devices.{IsIncremented}
 use Rattle.sessions.specs.Events.{Event, HasEnded, bytes_came, bytes_written}
 use Rattle.sessions.specs.Sessions.{AnswersBeforeReads, AnswersKnown, IsAnsweredAtReads}
-use Rattle.sessions.specs.Sessions.{MatchesStatus, NeverAhead}
+use Rattle.sessions.specs.Sessions.{IsAnswering, LeavesFailures, MatchesStatus, NeverAhead}
 use Rattle.sessions.specs.declared.status.SessionStatus.{SessionStatus}
+use Rattle.sessions.specs.declared.status.SessionStatus.TheVariants.{ReadFailed, WriteFailed}
 use Rattle.session_run.specs.Session.{State, session_rules}
 
 -- A session read and wrote these events, from the state without a cluster to the state `now`: before
@@ -41,6 +42,20 @@ RunsInTurn =
     → (events : List Event) × Consumes input rest (bytes_came events) × Appends old new (bytes_written events)
     × IsAnsweredAtReads session_rules None events
 
+-- at no moment a run had written more than a beginning of answers to the lines that had come whole
+abbrev pub RunsNeverWriteAhead : Type 0
+RunsNeverWriteAhead =
+    (input rest old new : Option (List ℕ)) (status : SessionStatus) → RunsSession input rest old new status
+    → (events : List Event) × Consumes input rest (bytes_came events) × Appends old new (bytes_written events)
+    × ((after before : List Event) → events ≡ after ++ before → IsAnswering session_rules None before)
+
+-- the records of the cluster that a run leaves, if it leaves one, obey the rule of commit
+abbrev pub RunsLeaveSerial : Type 0
+RunsLeaveSerial =
+    (input rest old new : Option (List ℕ)) (status : SessionStatus) → RunsSession input rest old new status
+    → (events : List Event) × (now : State) × MatchesStatus session_rules None events now status
+    × IfSome now (λ (cluster : TurnCluster). IsSerial cluster.config cluster.world.history)
+
 -- a run that is done has answered each line of a known input
 abbrev pub RunsAnswerInput : Type 0
 RunsAnswerInput =
@@ -53,3 +68,10 @@ ReadFails old new = IsIncremented old.0 new.0 × (new.1 ≡ old.1)
 
 abbrev pub WriteFails : ℕ × ℕ → ℕ × ℕ → Type 0
 WriteFails old new = (new.0 ≡ old.0) × IsIncremented old.1 new.1
+
+-- of counts that can still rise: the status says whether a read failed, or a write
+abbrev pub StatusTellsCounts : Type 0
+StatusTellsCounts =
+    (old new : ℕ × ℕ) (status : SessionStatus) → LeavesFailures ReadFails WriteFails old new status
+    → old.0 < 2 ^ 64 - 1 → old.1 < 2 ^ 64 - 1
+    → ((status ≡ ReadFailed) ↔ (new.0 ≢ old.0)) × ((status ≡ WriteFailed) ↔ (new.1 ≢ old.1))

@@ -1,6 +1,7 @@
 //! Laws of the text of a session: it answers all lines, and the events of a turns script have the
 //! answers of that script.
-ghost use Rattle.session_run.specs.Runs.{RunsAnswerInput, RunsInTurn};
+ghost use Rattle.session_run.specs.Runs.{RunsAnswerInput, RunsInTurn, RunsLeaveSerial};
+ghost use Rattle.session_run.specs.Runs.{RunsNeverWriteAhead, StatusTellsCounts};
 ghost use Rattle.session_run.specs.Session.{TextAnswersLines, session_rules};
 ghost use Rattle.session_run.specs.Shapes.{ClustersAreLines, EventsAreLines, ShowsAreLines};
 ghost use Rattle.session_run.specs.TurnsScripts.{LinesGiveTurns, LinesInOrderGiveTurns};
@@ -40,11 +41,15 @@ pub fn other_lines_law()
     ensures shows { ShowsAreLines }
 {}
 
-/// A law: a run over a source and a sink answered in turn; and once it is done, it has answered each line
-/// of a known input.
+/// A law: a run over a source and a sink answered in turn, and never wrote ahead; and once it is done, it has
+/// answered each line of a known input. The records of its cluster obey the rule of commit, and the status
+/// says which call failed.
 pub fn runs_answer_law()
     ensures in_turn { RunsInTurn }
     ensures input { RunsAnswerInput }
+    ensures never_ahead { RunsNeverWriteAhead }
+    ensures serial { RunsLeaveSerial }
+    ensures failures { StatusTellsCounts }
 {}
 
 /// A law: a line is carried out whole or not at all, so the state at the end is that after some of the

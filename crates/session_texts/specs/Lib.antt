@@ -6,3 +6,5 @@ pub mod Sessions
 pub mod Placing
 -- what the page of an answer holds
 pub mod Pages
+-- what follows of them
+pub mod Laws

@@ -5,8 +5,10 @@
 #![tactic(auto)]
 
 mod answer_page;
+mod laws;
 mod placing;
 mod text_session;
 
+pub use laws::placed_answers_law;
 pub use placing::{ANSWER_LOST, DONE, NO_SESSION};
 pub use text_session::{LineFault, TextSession};

@@ -1,8 +1,8 @@
 -- Statements of laws: what follows of the definitions.
 use Rattle.std.specs.Prelude.{◌≡◌, ◌≢◌, ◌≤◌, ◌↔◌, ◌+◌, ◌-◌, ◌^◌, ℕ, List, [], ◌∷◌, ◌++◌, length, flat_map, fold}
 use Rattle.std.specs.Prelude.{Some, IfSome}
-use Rattle.sessions.specs.Answers.{Rules, Answers, CarriesOutSome, answers_to, out_of_memory}
-use Rattle.sessions.specs.Events.{Event, GoesOnBy, HasEnded, View, bytes_came, bytes_written, lines_read}
+use Rattle.sessions.specs.Answers.{Rules, Answers, CarriesOutSome, IsSomeOf, answers_to, out_of_memory}
+use Rattle.sessions.specs.Events.{End, Event, GoesOnBy, HasEnded, Read, View, Wrote, bytes_came, bytes_written, lines_read}
 use Rattle.sessions.specs.Lines.{Splits, open_line_of, whole_lines}
 use Rattle.sessions.specs.Sessions.{IsAnsweredAtReads, IsRead, IsSession, LeavesFailures, NeverAhead}
 use Rattle.sessions.specs.declared.status.SessionStatus.{SessionStatus}
@@ -39,6 +39,28 @@ LinesOrNothing {S} rules =
     (old new : S) (lines : List (List ℕ)) (text : List ℕ) → Answers rules old lines text new
     → CarriesOutSome rules old lines new
 
+-- an empty line, and a line of one byte
+abbrev pub first_line : List ℕ
+first_line = []
+
+abbrev pub next_line : List ℕ
+next_line = 1 ∷ []
+
+-- Of two lines some are both, one or none; they are not turned round, come once, and are no others.
+pub record SomeOfTwoLines : Type 0 where
+  pub both : IsSomeOf (first_line ∷ next_line ∷ []) (first_line ∷ next_line ∷ [])
+  pub first : IsSomeOf (first_line ∷ []) (first_line ∷ next_line ∷ [])
+  pub next : IsSomeOf (next_line ∷ []) (first_line ∷ next_line ∷ [])
+  pub none : IsSomeOf [] (first_line ∷ next_line ∷ [])
+  pub turned_round : IsSomeOf (next_line ∷ first_line ∷ []) (first_line ∷ next_line ∷ []) → ⊥
+  pub twice : IsSomeOf (first_line ∷ first_line ∷ []) (first_line ∷ next_line ∷ []) → ⊥
+  pub another : IsSomeOf ((1 ∷ next_line) ∷ []) (first_line ∷ next_line ∷ []) → ⊥
+
+-- an empty answer is not `out of memory`; a list of answers with `out of memory` at its end has it
+pub record AnswersWithoutMemory : Type 0 where
+  pub others : NoneIsOutOfMemory ([] ∷ [] ∷ [])
+  pub at_the_end : NoneIsOutOfMemory ([] ∷ out_of_memory ∷ []) → ⊥
+
 -- ---- devices
 
 -- the device shows what is left to read, what was written, and its history
@@ -62,6 +84,12 @@ GoesOnInTurn N =
     → GoesOnBy old new (later ++ first)
 
 -- ---- sessions
+
+-- bytes that came are read, and so is the end of the input; what was written is not
+pub record ReadsAreThese : Type 0 where
+  pub bytes : (bytes : List ℕ) → IsRead (Read bytes)
+  pub end : IsRead End
+  pub written : (bytes : List ℕ) → IsRead (Wrote bytes) → ⊥
 
 -- at no moment more was written than a beginning of answers to the lines that had come whole
 abbrev pub NeverWritesAhead : {S : Type 0} → Rules S → Type 0

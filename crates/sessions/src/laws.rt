@@ -3,6 +3,7 @@
 ghost use Rattle.sessions.specs.Laws.{AnsweredAtEnd, AnswersBeforeItReadsOn, CarriesOutLines};
 ghost use Rattle.sessions.specs.Laws.{GoesOnInTurn, GoesOnKnown, LinesOrNothing};
 ghost use Rattle.sessions.specs.Laws.{NeverWritesAhead, OneAnswerForEach};
+ghost use Rattle.sessions.specs.Laws.{AnswersWithoutMemory, ReadsAreThese, SomeOfTwoLines};
 ghost use Rattle.sessions.specs.Laws.{StatusTellsFailures, UnendedIsLong};
 
 use crate::answering::Answering;
@@ -38,4 +39,12 @@ pub fn ended_session_law<A: Answering, T: Device>()
     ensures carried_out { CarriesOutLines A.rules T.Name }
     ensures unended { UnendedIsLong A.rules T.Name }
     ensures failures { StatusTellsFailures }
+{}
+
+/// Edge cases of the words of these laws: which lines are some of others, in order; whether `out of memory` is
+/// among answers; and what reads.
+pub fn words_of_laws_edges()
+    ensures some { SomeOfTwoLines }
+    ensures without_memory { AnswersWithoutMemory }
+    ensures reads { ReadsAreThese }
 {}

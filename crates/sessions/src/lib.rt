@@ -16,7 +16,10 @@ mod status;
 
 pub use answering::Answering;
 pub use device::{Device, Failed, write_all};
-pub use laws::{answers_in_turn_law, answers_of_lines_law, ended_session_law, known_device_law};
+pub use laws::{
+    answers_in_turn_law, answers_of_lines_law, ended_session_law, known_device_law,
+    words_of_laws_edges,
+};
 pub use lines::{last_line_counts, lines_are_exact_law, one_split_law};
 pub use run::answer_lines;
 pub use status::SessionStatus;

@@ -185,11 +185,11 @@ end_free es new begin end free no_more = ends_free es new begin end free (λ key
 -- ---- the range written
 
 -- the first start above the begin is at the end
-next_is_end : (begin end : Key) (s : Start) (ss : List Start) → IsBefore s.0 ss → is_key_below begin s.0 ≡ true → HasStart (s ∷ ss) end → IsFree begin end (s ∷ ss) → s.0 ≡ end
+pub next_is_end : (begin end : Key) (s : Start) (ss : List Start) → IsBefore s.0 ss → is_key_below begin s.0 ≡ true → HasStart (s ∷ ss) end → IsFree begin end (s ∷ ss) → s.0 ≡ end
 next_is_end begin end s ss all above (inl is) free = sym is
 next_is_end begin end s ss all above (inr has) free = absurd (both_ways (is_key_below begin s.0) (free.0 (before_has s.0 end ss all has)) above)
 
-not_first : (end : Key) (s : Start) (ss : List Start) → is_key_below s.0 end ≡ true → HasStart (s ∷ ss) end → HasStart ss end
+pub not_first : (end : Key) (s : Start) (ss : List Start) → is_key_below s.0 end ≡ true → HasStart (s ∷ ss) end → HasStart ss end
 not_first end s ss below (inl is) = absurd (both_ways (is_key_below s.0 end) (ap (is_key_below s.0) is ∙ not_below_itself s.0) below)
 not_first end s ss below (inr has) = has
 
@@ -254,7 +254,7 @@ any_first : (x y : ℕ) (ss : List Start) (key : Key) → HasStart ss key → la
 any_first x y [] key has = absurd has
 any_first x y (t ∷ ts) key has = refl
 
-past_put : (first : ℕ) (ss : List Start) (begin end : Key) (version : ℕ) → is_key_below begin end ≡ true → HasStart ss end → last_of_all first (insert_entry key_cmp ss begin version) ≡ last_of_all first ss
+pub past_put : (first : ℕ) (ss : List Start) (begin end : Key) (version : ℕ) → is_key_below begin end ≡ true → HasStart ss end → last_of_all first (insert_entry key_cmp ss begin version) ≡ last_of_all first ss
 past_put first [] begin end version forward has = absurd has
 past_put first (s ∷ ss) begin end version forward has = by (key_cmp begin s.0) refl (past_put s.1 ss begin end version forward)
   where

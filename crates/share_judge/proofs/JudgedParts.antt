@@ -1,7 +1,9 @@
 -- A share judged part by part: the verdicts and the writes so far, and what the parts from i on add to them.
-use Rattle.std.proofs.Common.{◌≡◌, ℕ, zero, suc, ◌+◌, ◌<◌, ◌≤◌, ◌⊎◌, ◌-◌, inl, inr, max, refl, sym, ap, ap₂, subst, ◌∙◌, Bool, true, false, cond, ◌||◌, nat_lt, nat_eq, nat_le, if◌then◌else◌, List, [], ◌∷◌, ◌++◌, length, drop, get_or, append_assoc, append-nil, add-one, arith}
-use Rattle.std.specs.List.{list_any}
+use Rattle.std.proofs.Common.{◌≡◌, ℕ, zero, suc, ◌+◌, ◌<◌, ◌≤◌, ◌⊎◌, inl, inr, max, refl, sym, ap, ap₂, subst, ◌∙◌, Bool, true, false, cond, ◌||◌, nat_lt, nat_eq, nat_le, if◌then◌else◌, List, [], ◌∷◌, ◌++◌, length, drop, get_or, append_assoc, append-nil, add-one, arith}
+use Rattle.std.specs.Prelude.{Some}
+use Rattle.std.specs.List.{list_any, slice_get}
 use Rattle.std.proofs.Math.Seq.{drop-cons}
+use Rattle.std.proofs.lemmas.Option.{get_or_from_slice_get, slice_get_within}
 use Rattle.std.proofs.lemmas.Bool.{ltb-true, lt-ltb, eqb-true, eq-eqb, cases_lt, leb-true, leb-false, or_cases, or_left, or_right}
 use Rattle.system_keys.specs.Keys.{Key, Range, holds}
 use Rattle.model.specs.declared.part.Part.{Part}
@@ -249,7 +251,18 @@ all_judged window dropped version kept parts i verdicts next past judged =
       past = judged.so_far.past;
     }
 
+-- ---- the reads of one part
+
+pub any_next : (test : Range → Bool) (ranges : List Range) (i : ℕ) (range : Range) → slice_get ranges i ≡ Some range → list_any test (drop i ranges) ≡ (test range || list_any test (drop (i + 1) ranges))
+any_next test ranges i range is =
+    ap (list_any test) (drop-cons ranges i range (slice_get_within ranges i range is) ∙ ap (λ (x : Range). x ∷ drop (suc i) ranges) (get_or_from_slice_get ranges i range range is))
+    ∙ ap (λ k. test range || list_any test (drop k ranges)) (sym (add-one i))
+
 -- ---- the ranges of one part
+
+-- where there is no range, nothing is written
+pub none_over : (version : ℕ) (starts : List Start) → AreOver (is_in_some []) version starts starts
+none_over version starts = record { at = λ key. refl; past = λ none. none }
 
 -- the ranges from i on, written over the steps so far, give what all give
 pub record AreWriting (version : ℕ) (ranges : List Range) (i : ℕ) (old new : List Start) : Type 0 where

@@ -5,7 +5,7 @@ use Rattle.system_keys.proofs.KeyOrder.{below_trans}
 use Rattle.model.specs.WriteHistories.{last_at, unless_forgotten}
 use Rattle.share_judge.specs.Steps.{Start, last_from, last_of_all, settled, writes_from, writes_of_starts, kept_writes, IsBefore, AreRising, TellTheSame}
 use Rattle.share_judge.specs.Kept.{AreKept}
-use Rattle.share_judge.proofs.Settled.{settled_last, settled_past, settled_rising, settled_twice, same_last, same_past}
+use Rattle.share_judge.proofs.Settled.{settled_last, settled_past, settled_rising, same_last, same_past}
 
 pub none_is : (dropped : ℕ) → unless_forgotten dropped 0 ≡ 0
 none_is dropped = by (nat_le 0 dropped)
@@ -71,20 +71,14 @@ dropped_kept last dropped bound ss kept low =
     }
 
 -- a sweep
-pub swept_writes : (dropped : ℕ) (old new : List Start) → new ≡ settled dropped 0 old → kept_writes dropped new ≡ kept_writes dropped old
-swept_writes dropped old new is =
-    ap (kept_writes dropped) is
-    ∙ ap writes_of_starts (sym (ap (λ n. settled dropped n (settled dropped 0 old)) (none_is dropped)) ∙ settled_twice dropped 0 old)
-
-pub swept_kept : (last dropped : ℕ) (old new : List Start) → AreKept last dropped old → new ≡ settled dropped 0 old → AreKept last dropped new
-swept_kept last dropped old new kept is = subst (AreKept last dropped) (sym is) (record {
-  rising = settled_rising dropped 0 old kept.rising;
-  past = sym (ap (λ n. last_of_all n (settled dropped 0 old)) (none_is dropped)) ∙ settled_past dropped 0 old ∙ ap (unless_forgotten dropped) kept.past ∙ none_is dropped;
-  up_to = λ key.
-      let is = sym (ap (λ n. last_from n (settled dropped 0 old) key) (none_is dropped)) ∙ settled_last dropped 0 old key kept.rising in
-      less (last_from 0 old key) (last_from 0 (settled dropped 0 old) key) is (kept.up_to key);
-  dropped_up_to = kept.dropped_up_to;
-})
+pub swept_kept : (last dropped : ℕ) (old new : List Start) → AreKept last dropped old → AreRising new → last_of_all 0 new ≡ 0 → ((key : Key) → last_from 0 new key ≡ unless_forgotten dropped (last_from 0 old key)) → AreKept last dropped new
+swept_kept last dropped old new kept rising past is =
+    record {
+      rising = rising;
+      past = past;
+      up_to = λ key. less (last_from 0 old key) (last_from 0 new key) (is key) (kept.up_to key);
+      dropped_up_to = kept.dropped_up_to;
+    }
   where
     less : (n m : ℕ) → m ≡ unless_forgotten dropped n → n ≤ last → m ≤ last
     less n m is low = by (nat_le n dropped) is

@@ -1,3 +1,7 @@
+pub mod Above
+pub mod After
+pub mod AtKeys
+pub mod CountOver
 pub mod Counted
 pub mod Free
 pub mod JudgedParts
@@ -6,6 +10,7 @@ pub mod Listed
 pub mod MapCalls
 pub mod MapStarts
 pub mod OneCount
+pub mod OneKey
 pub mod Overwritten
 pub mod Puts
 pub mod Reached
@@ -14,4 +19,7 @@ pub mod Repeated
 pub mod Settled
 pub mod Starts
 pub mod StoodFor
+pub mod Told
+pub mod VersionCalls
 pub mod WalkBack
+pub mod WithKeys

@@ -1,5 +1,5 @@
 -- What each call of the map gives, in terms of starts.
-use Rattle.std.proofs.Common.{◌≡◌, refl, sym, ap, ap₂, subst, ◌∙◌, ◌⊎◌, ℕ, List, [], ◌∷◌, ◌++◌, filter, Bool, true, false, cond, not, ◌&&◌, nat_eq, Some, None, nat_cmp, zero, suc, ◌+◌, ◌<◌, ◌≤◌, length, drop, get_or, add-one, arith}
+use Rattle.std.proofs.Common.{◌≡◌, refl, sym, ap, ap₂, subst, ◌∙◌, ◌⊎◌, ℕ, List, [], ◌∷◌, ◌++◌, filter, Bool, true, false, cond, not, ◌&&◌, nat_eq, nat_lt, Some, None, nat_cmp, zero, suc, ◌+◌, ◌<◌, ◌≤◌, length, drop, get_or, add-one, arith}
 use Rattle.std.proofs.Math.Seq.{drop-cons}
 use Rattle.std.specs.Map.{lookup, remove_entry, set_value}
 use Rattle.std.specs.Map.Calls.{RetainsPairs}
@@ -175,3 +175,18 @@ module _ {F : Type 0} (T : F → Key → Step → Bool → Step → F → Type 0
       let t = told f e.0 e.1 s.0 s.1 s.2 i s.4 in
       ap starts_now (s.6 ∙ ap (λ (b : Bool). cond b ((e.0, s.1) ∷ s.3) s.3) t.1)
       ∙ ap₂ (λ (n : ℕ) (ss : List Start). (e.0, n) ∷ ss) t.0 (taken_back told s.2 t.2 es s.3 s.5)
+
+-- ---- versions up to a bound gone
+
+module _ {F : Type 0} (T : F → Key → Step → Bool → Step → F → Type 0) (I : F → Type 0) (bound : ℕ) where
+  -- what one call of the closure gives: the same step, which stays if its version is above the bound
+  abbrev pub KeepsAbove : Type 0
+  KeepsAbove = (f : F) (k : Key) (v : Step) (b : Bool) (w : Step) (f' : F) → I f → T f k v b w f' → (w ≡ v) × (b ≡ nat_lt bound v.version) × I f'
+
+  pub kept_above : KeepsAbove → (f : F) → I f → (es kept : List StepStart) → RetainsPairs T f es kept → kept ≡ filter (λ (e : StepStart). nat_lt bound e.1.version) es
+  kept_above told f i [] kept s = s
+  kept_above told f i (e ∷ es) kept s =
+      let t = told f e.0 e.1 s.0 s.1 s.2 i s.4 in
+      s.6
+      ∙ ap₂ (λ (b : Bool) (w : Step). cond b ((e.0, w) ∷ s.3) s.3) t.1 t.0
+      ∙ ap (λ (rest : List StepStart). cond (nat_lt bound e.1.version) (e ∷ rest) rest) (kept_above told s.2 t.2 es s.3 s.5)

@@ -79,7 +79,7 @@ tested test f first (s ∷ ss) key = by (is_key_below key s.0) (tested test f (f
     by false rest = rest
 
 -- between two keys with no start in between nothing changes
-steady : (first : ℕ) (over : List Start) (low key : Key) → is_key_below key low ≡ false → ((k : Key) → HasStart over k → is_key_below low k ≡ true → is_key_below key k ≡ true) → last_from first over key ≡ last_from first over low
+pub steady : (first : ℕ) (over : List Start) (low key : Key) → is_key_below key low ≡ false → ((k : Key) → HasStart over k → is_key_below low k ≡ true → is_key_below key k ≡ true) → last_from first over key ≡ last_from first over low
 steady first [] low key up_to none = refl
 steady first (o ∷ over) low key up_to none = by (is_key_below low o.0) refl (steady o.1 over low key up_to (λ k has. none k (inr has)))
   where

@@ -137,7 +137,7 @@ read_back read (f ∷ front) e = ap (λ (ss : List Start). (f.0, read f.1) ∷ s
 
 -- ---- the begin of a share
 
-not_yet : (share n before : ℕ) → n < share → cond (nat_eq n share) before n ≡ n
+pub not_yet : (share n before : ℕ) → n < share → cond (nat_eq n share) before n ≡ n
 not_yet share n before below = by (nat_eq n share) refl
   where
     by : (t : Bool) → nat_eq n share ≡ t → cond t before n ≡ n

@@ -161,7 +161,7 @@ settled_rising dropped first (s ∷ ss) rising = by (nat_eq (unless_forgotten dr
     by true rest = rest
     by false rest = (settled_before dropped s.1 s.0 ss rising.0, rest)
 
-none_twice : (dropped n : ℕ) → unless_forgotten dropped (unless_forgotten dropped n) ≡ unless_forgotten dropped n
+pub none_twice : (dropped n : ℕ) → unless_forgotten dropped (unless_forgotten dropped n) ≡ unless_forgotten dropped n
 none_twice dropped n = by (nat_le n dropped) refl
   where
     by : (t : Bool) → nat_le n dropped ≡ t → unless_forgotten dropped (cond t 0 n) ≡ cond t 0 n

@@ -8,13 +8,13 @@ use Rattle.model.specs.Verdicts.{judged_at}
 use Rattle.model.specs.WriteHistories.{Write, WriteHistoryView, unless_forgotten, ShareAt, verdicts_by_writes}
 use Rattle.model.proofs.Shares.ByWrites.{verdicts_of_share, shares_add, forgetting_keeps}
 use Rattle.share_judge.specs.Answers.{AreVerdicts, GainsShare, Forgets}
-use Rattle.share_judge.specs.declared.step.Step.{Step}
-use Rattle.share_judge.specs.Steps.{Start, StepStart, AreRising, TellTheSame, last_from, settled, writes_of_starts, kept_writes, starts_now, starts_before}
+use Rattle.share_judge.specs.Steps.{Start, AreRising, TellTheSame, last_from, settled, writes_of_starts, kept_writes}
+use Rattle.share_judge.specs.Versions.{Versions, AreInOrder, all_now, all_before}
 use Rattle.share_judge.specs.Kept.{AreKept}
 use Rattle.share_judge.specs.Judged.{IsJudged}
-use Rattle.share_judge.proofs.KeptWrites.{last_kept, swept_writes}
-use Rattle.share_judge.proofs.Readings.{rising_read, share_begins}
+use Rattle.share_judge.proofs.KeptWrites.{last_kept}
 use Rattle.share_judge.proofs.Settled.{same_last, same_past}
+use Rattle.share_judge.proofs.VersionCalls.{all_begin, swept_settled}
 
 -- a history, seen by its window, its last version, and the steps that it keeps
 abbrev pub seen : (window last dropped : ℕ) (starts : List Start) → WriteHistoryView
@@ -85,11 +85,12 @@ forgets history next window last dropped more oldest bound kept view next_is is_
         ∙ forgotten_more dropped bound (last_from 0 kept key)
         ∙ ap₂ (λ (b : ℕ) (n : ℕ). unless_forgotten b n) is (sym (last_kept dropped kept key is_kept.rising is_kept.past)))
 
-pub swept_seen : (window last dropped : ℕ) (old new : List Start) → new ≡ settled dropped 0 old → seen window last dropped new ≡ seen window last dropped old
-swept_seen window last dropped old new is = ap (λ (ws : List Write). with_writes ws) (swept_writes dropped old new is)
+-- a sweep
+pub swept_seen : (window last dropped : ℕ) (old new : List Start) → AreRising old → AreRising new → ((key : Key) → last_from 0 new key ≡ unless_forgotten dropped (last_from 0 old key)) → seen window last dropped new ≡ seen window last dropped old
+swept_seen window last dropped old new rising rising_new is = ap (λ (starts : List Start). view (writes_of_starts starts)) (swept_settled dropped old new rising rising_new is)
   where
-    with_writes : List Write → WriteHistoryView
-    with_writes ws = record { window = window; last = last; writes = ws }
+    view : List Write → WriteHistoryView
+    view ws = record { window = window; last = last; writes = ws }
 
 -- ---- what the calls show
 
@@ -120,6 +121,6 @@ shown_gain history window last dropped version parts share kept next new verdict
 -- ---- a share that is taken back
 
 -- what was before it tells what was kept
-pub back_same : (version : ℕ) (old judged new : List StepStart) → AreRising (starts_now old) → ((key : Key) → last_from 0 (starts_now old) key < version) → TellTheSame (starts_before version old) (starts_before version judged) → starts_now new ≡ starts_before version judged → TellTheSame (starts_now old) (starts_now new)
-back_same version old judged new rising below same back dropped =
-    ap (settled dropped 0) back ∙ same dropped ∙ ap (settled dropped 0) (share_begins version old (rising_read (λ (step : Step). step.version) old rising) below)
+pub back_same : (version : ℕ) (old judged new : Versions) → AreInOrder old → ((key : Key) → last_from 0 (all_now old) key < version) → TellTheSame (all_before version old) (all_before version judged) → all_now new ≡ all_before version judged → TellTheSame (all_now old) (all_now new)
+back_same version old judged new order below same back dropped =
+    ap (settled dropped 0) back ∙ same dropped ∙ ap (settled dropped 0) (all_begin version old order below)

@@ -9,12 +9,15 @@
 #![tactic(auto)]
 
 mod judging;
+mod key_map;
 pub mod laws;
 mod not_judged;
+mod one_key;
 mod step;
 mod step_key;
 mod step_map;
 mod verdicts;
+mod version_map;
 mod write_history;
 
 pub use model::Verdict;

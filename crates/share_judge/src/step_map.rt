@@ -1,9 +1,9 @@
 //! The version of every key as a map of steps: looking up, overwriting by a share, taking back,
 //! forgetting.
 
-ghost use Rattle.std.specs.Prelude.{◌≡◌, ◌+◌, ◌++◌, [], IfOk, OnOk, IsTrue, true, false};
-ghost use Rattle.std.specs.Prelude.{nat_eq, not, IfSome};
-ghost use Rattle.system_keys.specs.Keys.{Key, Range, holds, is_key_below};
+ghost use Rattle.std.specs.Prelude.{◌≡◌, ◌+◌, ◌<◌, ◌≤◌, ◌^◌, ◌++◌, [], IfOk, OnOk, IsTrue, true};
+ghost use Rattle.std.specs.Prelude.{nat_eq, not, IfSome, false, length};
+ghost use Rattle.system_keys.specs.Keys.{Key, Range, holds, is_key_below, only};
 ghost use Rattle.model.specs.WriteHistories.{unless_forgotten};
 ghost use Rattle.share_judge.specs.Steps.{last_from, last_before, settled, AreRising, HasStart};
 ghost use Rattle.share_judge.specs.Steps.{IsEdge, IsFree, TellTheSame, GainsStart, AreOver};
@@ -12,6 +12,7 @@ ghost use Rattle.share_judge.specs.Steps.{is_written_above, keys_between, is_inn
 ghost use Rattle.share_judge.specs.Steps.{changes_from};
 ghost use Rattle.share_judge.specs.Steps.{no_step, version_before, starts_now, starts_before};
 
+use crate::one_key::is_right_after;
 use crate::step::{NO_STEP, Step};
 use crate::step_key::StepKey;
 use model::Version;
@@ -80,12 +81,15 @@ impl StepMap {
     }
 
     /// How many starts there are.
-    pub(crate) fn len(&self) -> usize {
+    pub(crate) fn len(&self) -> usize
+        ensures len { result ≡ length self.now }
+        ensures small { result < 2 ^ 63 }
+    {
         self.steps.len()
     }
 
     /// The step at a key. Does not allocate.
-    fn at(&self, key: &StepKey) -> Step
+    pub(crate) fn at(&self, key: &StepKey) -> Step
         ensures { result ≡ last_from no_step self.now key.now }
     {
         match self.steps.range(..=key).next_back() {
@@ -94,8 +98,22 @@ impl StepMap {
         }
     }
 
+    /// The version of the key right after this one. Does not allocate.
+    pub(crate) fn after(&self, key: &StepKey) -> Version
+        ensures { result ≡ last_from 0 (starts_now self.now) (only key.now).end }
+    {
+        let mut left = self.steps.range((Bound::Excluded(key), Bound::Unbounded));
+        let Some((next, step)) = left.next() else {
+            return self.at(key).version;
+        };
+        if is_right_after(key.as_slice(), next.as_slice()) {
+            return step.version;
+        }
+        self.at(key).version
+    }
+
     /// The version just before a key. Does not allocate.
-    fn before(&self, key: &StepKey) -> Version
+    pub(crate) fn before(&self, key: &StepKey) -> Version
         ensures { result ≡ last_before 0 (starts_now self.now) key.now }
     {
         match self.steps.range(..key).next_back() {
@@ -387,7 +405,9 @@ impl StepMap {
     /// How many greatest ranges of keys there are with one version, from the empty key up to
     /// `\xff\xff`, where versions up to the bound count as none. Does not allocate.
     pub(crate) fn count(&self, dropped: Version) -> usize
-        ensures { result ≡ 1 + changes_from dropped 0 (starts_now self.now) }
+        ensures count { result ≡ 1 + changes_from dropped 0 (starts_now self.now) }
+        ensures fits { result ≤ 2 ^ 63 }
+        ensures rising { AreRising self.now }
     {
         let _length = self.steps.len();
         let mut count = 1;
@@ -424,7 +444,7 @@ fn step_up_to(key: &StepKey, step: Step, begin: &StepKey) -> Option<Step>
 }
 
 /// The version, or 0 if it is at or below the bound.
-fn unless_forgotten(bound: Version, version: Version) -> Version
+pub(crate) fn unless_forgotten(bound: Version, version: Version) -> Version
     ensures { result ≡ unless_forgotten bound version }
 {
     if version <= bound { 0 } else { version }
@@ -432,14 +452,14 @@ fn unless_forgotten(bound: Version, version: Version) -> Version
 
 /// Whether a range can end and the next one begin at the key: it is above the empty key, and below
 /// `\xff\xff`.
-fn is_inner_boundary(key: &[u8]) -> bool
+pub(crate) fn is_inner_boundary(key: &[u8]) -> bool
     ensures { result ≡ is_inner_boundary key.now }
 {
     is_key_below(b"", key) && is_key_below(key, KEY_SPACE_END)
 }
 
 /// Whether the key `a` is below the key `b`.
-fn is_key_below(a: &[u8], b: &[u8]) -> bool
+pub(crate) fn is_key_below(a: &[u8], b: &[u8]) -> bool
     ensures { result ≡ is_key_below a.now b.now }
 {
     a.cmp(b).is_lt()

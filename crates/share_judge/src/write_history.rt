@@ -7,15 +7,15 @@ ghost use Rattle.share_judge.specs.Answers.{IfOutOfMemory};
 
 use crate::judging::{Judging, judge_parts, judge_with_copy};
 use crate::not_judged::NotJudged;
-use crate::step_map::StepMap;
 use crate::verdicts::Verdicts;
+use crate::version_map::VersionMap;
 use model::Version;
 use request_builder::Share;
 use std::alloc::Global;
 use std::marker::Model;
 use system_keys::{Items, OutOfMemory};
 
-/// A sweep needs at least twice this number of starts.
+/// A sweep needs at least twice this number of entries.
 const SWEPT_AT_LEAST: usize = 8;
 
 /// The committed writes of one resolver, with their versions.
@@ -27,14 +27,15 @@ pub struct WriteHistory {
     last: Version,
     /// Versions up to this one count as none.
     dropped: Version,
-    /// How many starts there were after the last sweep.
+    /// How many entries there were after the last sweep.
     swept: usize,
-    steps: StepMap,
+    steps: VersionMap,
 }
 
 impl Model for WriteHistory {
     ghost use Rattle.model.specs.WriteHistories.{WriteHistoryView};
-    ghost use Rattle.share_judge.specs.Steps.{kept_writes, starts_now};
+    ghost use Rattle.share_judge.specs.Steps.{kept_writes};
+    ghost use Rattle.share_judge.specs.Versions.{all_now};
     ghost use Rattle.share_judge.specs.Kept.{AreKept};
 
     ghost Value = { WriteHistoryView };
@@ -42,11 +43,11 @@ impl Model for WriteHistory {
     ghost view = { λ history. record {
       window = history.window;
       last = history.last;
-      writes = kept_writes history.dropped (starts_now history.steps);
+      writes = kept_writes history.dropped (all_now history.steps);
     } };
 
     ghost invariant = { λ history.
-        AreKept history.last history.dropped (starts_now history.steps) };
+        AreKept history.last history.dropped (all_now history.steps) };
 }
 
 impl WriteHistory {
@@ -62,7 +63,7 @@ impl WriteHistory {
             last: 0,
             dropped: 0,
             swept: 0,
-            steps: StepMap::new(alloc),
+            steps: VersionMap::new(alloc),
         })
     }
 
@@ -184,8 +185,8 @@ impl WriteHistory {
         Ok(self.clone()?)
     }
 
-    /// Takes out the starts at which the version does not change, if there are twice as many starts as
-    /// after the last time.
+    /// Takes out what tells no version that is left, if there are twice as many entries as after the
+    /// last time.
     fn sweep_if_grown(&mut self)
         ensures { self.new ≡ self.old }
     {

@@ -42,6 +42,7 @@ pub use laws::{
 pub use location::{Location, decode_location};
 pub use memory::OutOfMemory;
 pub use ordered_key::{OrderedKey, SHORT_KEY};
+pub use plain::{PLAIN_LANES, plain_front_length, plain_run};
 pub use range::KeyRange;
 pub use refusal::{Refusal, RowFault};
 pub use server::ServerId;
@@ -52,4 +53,6 @@ pub use tag::Tag;
 pub use tag_rows::encode_tag_teams;
 pub use tag_teams::{TAGS_LIMIT, TagTeams, TagTeamsFault};
 pub use teams::{SERVERS_LIMIT, Teams, TeamsFault};
-pub use text::{print_bytes, read_bytes};
+pub use text::{
+    byte_of_hex_digits, hex_digit, is_lower_hex_digit, is_plain, print_bytes, read_bytes,
+};

@@ -8,20 +8,20 @@ use crate::text::is_plain;
 use std::simd::prelude::*;
 
 /// How many characters are tested at once, of a text that has as many.
-const LANES: usize = 16;
+pub const PLAIN_LANES: usize = 16;
 
 /// How many characters are tested at once, of a shorter text.
 const HALF_LANES: usize = 8;
 
 /// How many characters at the front of the text stand for themselves.
 #[inline(always)]
-pub(crate) fn plain_front_length(text: &[u8]) -> usize
+pub fn plain_front_length(text: &[u8]) -> usize
     ensures within { result ≤ length text.now }
     ensures plain { ArePlain text.now 0 result }
 {
     if text.len() < HALF_LANES {
         plain_front_by_ones(text)
-    } else if text.len() < LANES {
+    } else if text.len() < PLAIN_LANES {
         plain_front_by_eights(text)
     } else {
         plain_front_by_sixteens(text)
@@ -63,20 +63,20 @@ fn plain_front_by_eights(text: &[u8]) -> usize
 /// The same, sixteen characters at a time. The last sixteen may overlap those before.
 #[inline(always)]
 fn plain_front_by_sixteens(text: &[u8]) -> usize
-    requires { LANES ≤ length text.now }
+    requires { PLAIN_LANES ≤ length text.now }
     ensures within { result ≤ length text.now }
     ensures plain { ArePlain text.now 0 result }
 {
     let mut length = 0usize;
-    while LANES < text.len() - length {
-        let run = plain_run_of_sixteen(text, length);
+    while PLAIN_LANES < text.len() - length {
+        let run = plain_run(text, length);
         length += run;
-        if run < LANES {
+        if run < PLAIN_LANES {
             return length;
         }
     }
-    let last = text.len() - LANES;
-    length.max(last + plain_run_of_sixteen(text, last))
+    let last = text.len() - PLAIN_LANES;
+    length.max(last + plain_run(text, last))
 }
 
 /// How many of the eight characters from `at` on stand for themselves, before one that does not.
@@ -95,16 +95,16 @@ fn plain_run_of_eight(text: &[u8], at: usize) -> usize
 
 /// How many of the sixteen characters from `at` on stand for themselves, before one that does not.
 #[inline(always)]
-fn plain_run_of_sixteen(text: &[u8], at: usize) -> usize
-    requires { at + LANES ≤ length text.now }
-    ensures within { result ≤ LANES }
+pub fn plain_run(text: &[u8], at: usize) -> usize
+    requires { at + PLAIN_LANES ≤ length text.now }
+    ensures within { result ≤ PLAIN_LANES }
     ensures plain { ArePlain text.now at (at + result) }
 {
     let characters = u8x16::from_slice(&text[at..]);
     let others = (characters - u8x16::splat(b'!')).simd_ge(u8x16::splat(94))
         | characters.simd_eq(u8x16::splat(b'"'))
         | characters.simd_eq(u8x16::splat(b'\\'));
-    first_set_bit(others.to_bitmask(), LANES)
+    first_set_bit(others.to_bitmask(), PLAIN_LANES)
 }
 
 /// The place of the lowest bit that is set, or `lanes` if none is.

@@ -49,8 +49,9 @@ fn text_length_of_byte(byte: u8) -> usize
     if is_plain(byte) { 1 } else { 4 }
 }
 
+/// Whether the byte is its own character in a text of bytes.
 #[inline(always)]
-pub(crate) fn is_plain(byte: u8) -> bool
+pub fn is_plain(byte: u8) -> bool
     ensures { result ≡ is_plain byte }
 {
     byte.is_ascii_graphic() && byte != b'"' && byte != b'\\'
@@ -70,7 +71,8 @@ fn push_byte_text(text: &mut String, byte: u8) -> Result<(), OutOfMemory>
     }
 }
 
-fn hex_digit(value: u8) -> char
+/// The lower-case hexadecimal digit of a number below 16.
+pub fn hex_digit(value: u8) -> char
     requires { value < 16 }
     ensures value { result ≡ digit_char value }
     ensures ascii { result < 128 }
@@ -202,13 +204,17 @@ fn is_escape(slash: u8, x: u8, high: u8, low: u8) -> bool
         && !is_plain(byte_of_hex_digits(high, low))
 }
 
-fn is_lower_hex_digit(character: u8) -> bool
+/// Whether the character is a digit or one of the letters `a` to `f`.
+#[inline(always)]
+pub fn is_lower_hex_digit(character: u8) -> bool
     ensures { result ≡ is_lower_hex_digit character }
 {
     matches!(character, b'0'..=b'9' | b'a'..=b'f')
 }
 
-fn byte_of_hex_digits(high: u8, low: u8) -> u8
+/// The byte that has these two lower-case hexadecimal digits.
+#[inline(always)]
+pub fn byte_of_hex_digits(high: u8, low: u8) -> u8
     requires high { IsTrue (is_lower_hex_digit high) }
     requires low { IsTrue (is_lower_hex_digit low) }
     ensures { result ≡ byte_of_hex_digits high low }
@@ -216,6 +222,7 @@ fn byte_of_hex_digits(high: u8, low: u8) -> u8
     16 * value_of_hex_digit(high) + value_of_hex_digit(low)
 }
 
+#[inline(always)]
 fn value_of_hex_digit(character: u8) -> u8
     requires { IsTrue (is_lower_hex_digit character) }
     ensures value { result ≡ value_of_hex_digit character }

@@ -13,12 +13,8 @@ pub type PartLine<'a> = (u64, &'a [Ends<'a>], &'a [Ends<'a>]);
 /// The part of this number, whose ranges have no fault.
 pub fn part(alloc: Global, number: usize, line: PartLine<'_>) -> Result<Part, Fail> {
     let (snapshot, reads, writes) = line;
-    Ok(Part {
-        number,
-        snapshot,
-        reads: ranges(alloc, reads)?,
-        writes: ranges(alloc, writes)?,
-    })
+    let (reads, writes) = (ranges(alloc, reads)?, ranges(alloc, writes)?);
+    Ok(Part::new(alloc, number, snapshot, reads, writes)?)
 }
 
 /// The parts, numbered from 0.

@@ -7,6 +7,7 @@ mod commits;
 mod of_commits;
 mod of_gates;
 mod of_held_requests;
+mod of_left_requests;
 mod of_meetings;
 mod of_phases;
 mod of_refusals;

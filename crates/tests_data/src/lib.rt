@@ -1,4 +1,4 @@
-//! The tests of system_keys, model, mutation, scripts and fold_run, by their public calls.
+//! The tests of system_keys, model, mutation, script_tokens, scripts and fold_run, by their public calls.
 #![tactic(auto)]
 
 #[cfg(test)]

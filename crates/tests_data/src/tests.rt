@@ -10,6 +10,7 @@ mod of_fold_run;
 mod of_model;
 mod of_mutation;
 mod of_refusals;
+mod of_script_tokens;
 mod of_scripts;
 mod of_system_keys;
 mod of_testing;

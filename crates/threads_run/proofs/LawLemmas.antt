@@ -29,11 +29,12 @@ use Rattle.threads_lines.specs.Histories.{HasFinishedAll, HasJudgedAll, IsStartO
 use Rattle.threads_lines.specs.Laws.{HaveVersionOf, one_of, reached_by_all}
 use Rattle.threads_lines.specs.Lines.{CommitResult, closing_line}
 use Rattle.threads_lines.specs.Meetings.{AreMeetingLines, IsAuditLine, audit_line}
+use Rattle.threads_lines.specs.Moves.{dated}
 use Rattle.threads_lines.specs.Parts.{IsInParts, IsInTurns}
 use Rattle.threads_lines.proofs.CheckLemmas.{all_at}
 use Rattle.threads_lines.proofs.LawLemmas.{an_audit_is_ok_if_all_have_reached}
 use Rattle.threads_run.specs.Delivered.{AreRequestsAndEnd, GoesByInboxes, IsDelivered, IsRequest, IsSideDelivered, IsTaken, messages_of, proxy_of}
-use Rattle.threads_run.specs.Laws.{ARecordIsOneMessage, EachAuditIsOk, EachRecordHasALine, EachTextWentByItsInboxes, EachWorkerTookAll, GoesByOne, IsClusterOfOne, OneProxyHasItsLines, TookAllOf, WithoutProxiesThereAreNoLines, a_request, batches_in, no_proxies, one_proxy, side_that_sent, text_of_one, the_end, worker_that_took}
+use Rattle.threads_run.specs.Laws.{ARecordIsOneMessage, EachAuditIsOk, EachRecordHasALine, EachTextIsOfOneHistory, EachTextWentByItsInboxes, EachWorkerTookAll, GoesByOne, IsClusterOfOne, OneProxyHasItsLines, TookAllOf, WithoutProxiesThereAreNoLines, a_request, batches_in, no_proxies, one_proxy, side_that_sent, text_of_one, the_end, worker_that_took}
 use Rattle.threads_run.specs.Text.{IsProxyText, IsThreadsText, proxy_text}
 use Rattle.threads_scripts.specs.declared.script.ThreadsScript.{ThreadsScript}
 
@@ -63,6 +64,20 @@ all_reached script text is p v at place w there =
     let same : length w.records * config.step ≡ length is.history * config.step = ap (λ (n : ℕ). n * config.step) judged in
     let last = last_is config is.history is.is_history in
     omega (arith, own, done, version, same, last)
+
+-- all of a text is of its history
+pub each_of_one_history : EachTextIsOfOneHistory
+each_of_one_history script text is = record {
+  resolvers = λ r w at.
+      let judged : length w.records ≡ length is.history =
+      subst (λ (u : LockedResolverView). length u.records ≡ length is.history) (get_or_from_slice_get is.resolvers r w w at) (is.judged r w (slice_get_within is.resolvers r w at)) in
+      is.of_resolvers r w at ∙ ap (λ (n : ℕ). take n is.history) judged ∙ take_all is.history (length is.history) (omega arith);
+  proxies = is.of_proxies;
+  answers = is.of_answers;
+  rows = is.fits;
+  moves = λ row rec at.
+      subst (λ (r : Record). r.moves ≡ map (dated 1) script.moves) (get_or_from_slice_get is.history row rec rec at) (is.moved row rec (slice_get_within is.history row rec at));
+}
 
 -- parts of one kind are parts of another
 each_part : (P Q : ℕ → List ℕ → Type 0) (count bound : ℕ) (text : List ℕ) → count ≤ bound

@@ -1,5 +1,5 @@
 -- What the text of a threads script says, and what a run writes: the contracts of laws.rt.
-use Rattle.std.specs.Prelude.{◌≡◌, ◌+◌, ◌<◌, ◌≤◌, ℕ, List, [], ◌∷◌, ◌++◌, All, length}
+use Rattle.std.specs.Prelude.{◌≡◌, ◌+◌, ◌<◌, ◌≤◌, ℕ, List, [], ◌∷◌, ◌++◌, All, length, map, take}
 use Rattle.std.specs.Prelude.{IsOk, Some, Ok, Err, false, true, slice_get}
 use Rattle.std.specs.List.{sum_by}
 use Rattle.scripts.specs.Outputs.{OutputView, done, refused_output}
@@ -22,6 +22,7 @@ use Rattle.threads_lines.specs.Guards.{AreLockedProxies, AreLockedResolvers}
 use Rattle.threads_lines.specs.Laws.{one_of, reached_by_all}
 use Rattle.threads_lines.specs.Lines.{closing_line}
 use Rattle.threads_lines.specs.Meetings.{IsAuditLine, audit_line}
+use Rattle.threads_lines.specs.Moves.{dated}
 use Rattle.threads_lines.specs.Parts.{IsInParts}
 use Rattle.threads_run.specs.Delivered.{GoesByInboxes, IsRequest}
 use Rattle.threads_run.specs.Runs.{IsOutputOf, IsOutputFor, WritesOutput}
@@ -50,6 +51,23 @@ abbrev pub EachRecordHasALine : Type 0
 EachRecordHasALine =
     (script : ThreadsScript) (text : List ℕ) (is : IsThreadsText script text)
     → length is.history ≤ batches_in script.work + script.config.proxies
+
+-- All of a text is of its history: each resolver has its records, those of each proxy and of the answers begin
+-- it, it fits the ledger, and its records have the moves of the script.
+pub record IsOfOneHistory (script : ThreadsScript) (text : List ℕ) (is : IsThreadsText script text) : Type 0 where
+  pub resolvers :
+      (r : ResolverNumber) (w : LockedResolverView) → slice_get is.resolvers r ≡ Some w → w.records ≡ is.history
+  pub proxies :
+      (p : ProxyNumber) (v : LockedProxyView) → slice_get is.proxies p ≡ Some v
+      → v.records ≡ take (length v.records) is.history
+  pub answers : is.known.records ≡ take (length is.known.records) is.history
+  pub rows : length is.history ≤ script.rows
+  pub moves :
+      (row : ℕ) (rec : Record) → slice_get is.history row ≡ Some rec → rec.moves ≡ map (dated 1) script.moves
+
+abbrev pub EachTextIsOfOneHistory : Type 0
+EachTextIsOfOneHistory =
+    (script : ThreadsScript) (text : List ℕ) (is : IsThreadsText script text) → IsOfOneHistory script text is
 
 -- a script of no proxies, which no file is: a cluster has one at least
 abbrev pub no_proxies : ThreadsScript

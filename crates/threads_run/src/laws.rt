@@ -5,16 +5,18 @@ ghost use Rattle.threads_run.specs.Laws.{ADoneRunWroteATextOfItsScript, AFailedR
 ghost use Rattle.threads_run.specs.Laws.{AFaultHasOneAnswer, ARecordIsOneMessage};
 ghost use Rattle.threads_run.specs.Laws.{ARefusedRunWroteTheFault, AScriptWithoutFaultIsNotRefused};
 ghost use Rattle.threads_run.specs.Laws.{EachAuditIsOk, EachRecordHasALine};
-ghost use Rattle.threads_run.specs.Laws.{EachTextWentByItsInboxes, EachWorkerTookAll};
+ghost use Rattle.threads_run.specs.Laws.{EachTextIsOfOneHistory, EachTextWentByItsInboxes};
+ghost use Rattle.threads_run.specs.Laws.{EachWorkerTookAll};
 ghost use Rattle.threads_run.specs.Laws.{OneProxyHasItsLines};
 ghost use Rattle.threads_run.specs.Laws.{OtherRunsWriteNothing};
 ghost use Rattle.threads_run.specs.Laws.{WithoutProxiesThereAreNoLines};
 
-/// Each audit of a text says `ok`. The history of a text has no record without a line, and its run went by its
-/// inboxes. Where there are no proxies, a text has no lines; one proxy has its own.
+/// Each audit of a text says `ok`. The history of a text has no record without a line, all of the text is of it,
+/// and its run went by its inboxes. Where there are no proxies, a text has no lines; one proxy has its own.
 pub fn all_lines_law()
     ensures audits { EachAuditIsOk }
     ensures records { EachRecordHasALine }
+    ensures history { EachTextIsOfOneHistory }
     ensures inboxes { EachTextWentByItsInboxes }
     ensures no_proxies { WithoutProxiesThereAreNoLines }
     ensures one_proxy { OneProxyHasItsLines }

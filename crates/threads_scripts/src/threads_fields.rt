@@ -10,20 +10,16 @@ ghost use Rattle.threads_scripts.specs.Shapes.{work_shape};
 use crate::limits::is_within_limits;
 use crate::script::RawThreads;
 use cluster_scripts::GivenMove;
-use json::Reader as TokenReader;
 use model::Config;
 use mutation::Transaction;
+use script_tokens::Tokens;
 use scripts::{Fields, Streamed, take_into_slot, take_object};
 use std::alloc::Global;
 use system_keys::{Bytes, Items};
 
 impl Streamed for RawThreads {
     #[tactic(auto, using(cluster_scripts::proofs::ConfigLemmas::within_limits))]
-    fn from_tokens(
-        alloc: Global,
-        reader: &mut TokenReader<'_>,
-        depth: usize,
-    ) -> Option<RawThreads> {
+    fn from_tokens(alloc: Global, reader: &mut Tokens<'_>, depth: usize) -> Option<RawThreads> {
         let fields: ThreadsFields = take_object(alloc, reader, depth)?;
         let (proxies, resolvers) = (fields.proxies?, fields.resolvers?);
         let (window, step) = (fields.window?, fields.step?);
@@ -82,7 +78,7 @@ impl Fields for ThreadsFields {
     fn take_field(
         &mut self,
         alloc: Global,
-        reader: &mut TokenReader<'_>,
+        reader: &mut Tokens<'_>,
         depth: usize,
         name: &str,
     ) -> Option<()> {

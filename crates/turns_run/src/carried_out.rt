@@ -12,9 +12,9 @@ ghost use Rattle.turns_run.specs.declared.script.RawEvent.{RawEvent as TheRawEve
 use crate::event_lines::carry_out_event;
 use crate::script::RawEvent;
 use crate::turns_fields::FromEvents;
-use json::Reader as TokenReader;
 use model::Config;
-use scripts::{Checked, Streamed, take_begin_array};
+use script_tokens::Tokens;
+use scripts::{Checked, Streamed};
 use std::alloc::Global;
 use turn_world::{Event, TurnWorld};
 
@@ -33,11 +33,11 @@ impl FromEvents for CarriedOut {
 
     fn take(
         alloc: Global,
-        reader: &mut TokenReader<'_>,
+        reader: &mut Tokens<'_>,
         depth: usize,
         config: Option<Config>,
     ) -> Option<CarriedOut> {
-        if depth == 0 || !take_begin_array(reader) {
+        if depth == 0 || !reader.take_begin_array() {
             return None;
         }
         let mut text = String::new(alloc);
@@ -51,7 +51,7 @@ impl FromEvents for CarriedOut {
 /// Returns `None` as `Streamed` does, and at the first event with a fault.
 fn carry_out_each(
     alloc: Global,
-    reader: &mut TokenReader<'_>,
+    reader: &mut Tokens<'_>,
     depth: usize,
     text: &mut String,
     world: &mut TurnWorld,
@@ -71,7 +71,7 @@ fn carry_out_each(
 /// Carries out the next event of a list, and prints its lines.
 fn carry_out_next(
     alloc: Global,
-    reader: &mut TokenReader<'_>,
+    reader: &mut Tokens<'_>,
     depth: usize,
     text: &mut String,
     world: &mut TurnWorld,
@@ -90,7 +90,7 @@ fn carry_out_next(
 }
 
 /// The next event of a list, if it has no fault.
-fn take_event(alloc: Global, reader: &mut TokenReader<'_>, depth: usize) -> Option<Event>
+fn take_event(alloc: Global, reader: &mut Tokens<'_>, depth: usize) -> Option<Event>
     ensures { IfSome result (λ event. (raw : TheRawEvent)
         × Takes event_shape depth reader.old raw reader.new
         × (checked_event raw ≡ Ok event)) }

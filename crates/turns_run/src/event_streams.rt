@@ -11,26 +11,21 @@ ghost use Rattle.turns_run.specs.Streams.{Holds};
 
 use crate::script::RawEvent;
 use cluster_scripts::GivenMove;
-use json::Reader as TokenReader;
 use mutation::Transaction;
+use script_tokens::Tokens;
 use scripts::{Fields, Streamed, take_into_slot, take_object};
 use std::alloc::Global;
 use system_keys::Items;
 
 impl Streamed for RawEvent {
-    fn from_tokens(alloc: Global, reader: &mut TokenReader<'_>, depth: usize) -> Option<RawEvent> {
+    fn from_tokens(alloc: Global, reader: &mut Tokens<'_>, depth: usize) -> Option<RawEvent> {
         let only: OnlyField = take_object(alloc, reader, depth)?;
         Some(only.event?)
     }
 }
 
 // The event of the field of this name.
-fn take_event(
-    alloc: Global,
-    reader: &mut TokenReader<'_>,
-    depth: usize,
-    name: &str,
-) -> Option<RawEvent>
+fn take_event(alloc: Global, reader: &mut Tokens<'_>, depth: usize, name: &str) -> Option<RawEvent>
     ensures { IfSome result (λ event. (d : Data) × TakesData depth reader.old d reader.new
         × (event_shape (object (member name.now d no_members)) ≡ Some event)) }
 {
@@ -44,7 +39,7 @@ fn take_event(
 }
 
 /// Takes the value of a sequence event from the tokens.
-fn take_sequence(alloc: Global, reader: &mut TokenReader<'_>, depth: usize) -> Option<RawEvent>
+fn take_sequence(alloc: Global, reader: &mut Tokens<'_>, depth: usize) -> Option<RawEvent>
     ensures { IfSome result (λ event. Takes sequence_shape depth reader.old event reader.new) }
 {
     let fields: SequenceFields = take_object(alloc, reader, depth)?;
@@ -55,14 +50,14 @@ fn take_sequence(alloc: Global, reader: &mut TokenReader<'_>, depth: usize) -> O
 }
 
 /// Takes the value of a move event from the tokens.
-fn take_move(alloc: Global, reader: &mut TokenReader<'_>, depth: usize) -> Option<RawEvent>
+fn take_move(alloc: Global, reader: &mut Tokens<'_>, depth: usize) -> Option<RawEvent>
     ensures { IfSome result (λ event. Takes move_event_shape depth reader.old event reader.new) }
 {
     Some(RawEvent::Move(GivenMove::from_tokens(alloc, reader, depth)?))
 }
 
 /// Takes the value of an offer event from the tokens.
-fn take_offer(alloc: Global, reader: &mut TokenReader<'_>, depth: usize) -> Option<RawEvent>
+fn take_offer(alloc: Global, reader: &mut Tokens<'_>, depth: usize) -> Option<RawEvent>
     ensures { IfSome result (λ event. Takes offer_shape depth reader.old event reader.new) }
 {
     let fields: OfferFields = take_object(alloc, reader, depth)?;
@@ -73,7 +68,7 @@ fn take_offer(alloc: Global, reader: &mut TokenReader<'_>, depth: usize) -> Opti
 }
 
 /// Takes the value of a finish event from the tokens.
-fn take_finish(alloc: Global, reader: &mut TokenReader<'_>, depth: usize) -> Option<RawEvent>
+fn take_finish(alloc: Global, reader: &mut Tokens<'_>, depth: usize) -> Option<RawEvent>
     ensures { IfSome result (λ event. Takes finish_shape depth reader.old event reader.new) }
 {
     let fields: FinishFields = take_object(alloc, reader, depth)?;
@@ -98,7 +93,7 @@ impl Fields for OnlyField {
     fn take_field(
         &mut self,
         alloc: Global,
-        reader: &mut TokenReader<'_>,
+        reader: &mut Tokens<'_>,
         depth: usize,
         name: &str,
     ) -> Option<()> {
@@ -133,7 +128,7 @@ impl Fields for SequenceFields {
     fn take_field(
         &mut self,
         alloc: Global,
-        reader: &mut TokenReader<'_>,
+        reader: &mut Tokens<'_>,
         depth: usize,
         name: &str,
     ) -> Option<()> {
@@ -167,7 +162,7 @@ impl Fields for OfferFields {
     fn take_field(
         &mut self,
         alloc: Global,
-        reader: &mut TokenReader<'_>,
+        reader: &mut Tokens<'_>,
         depth: usize,
         name: &str,
     ) -> Option<()> {
@@ -196,7 +191,7 @@ impl Fields for FinishFields {
     fn take_field(
         &mut self,
         alloc: Global,
-        reader: &mut TokenReader<'_>,
+        reader: &mut Tokens<'_>,
         depth: usize,
         name: &str,
     ) -> Option<()> {

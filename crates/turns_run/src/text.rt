@@ -9,8 +9,8 @@ use crate::event_lines::carry_out_events;
 use crate::proxies::print_proxies;
 use crate::script::TurnsScript;
 use crate::turns_fields::TurnsFields;
-use json::Reader as TokenReader;
 use model::Config;
+use script_tokens::Tokens;
 use scripts::{MadeOfTokens, take_object};
 use std::alloc::Global;
 use system_keys::{Bytes, OutOfMemory};
@@ -42,7 +42,7 @@ impl MadeOfTokens for TurnsText {
     ghost is_made_of = { λ made d. IsTextOf d made };
 
     // Where the numbers of the cluster come after the events, it decides nothing.
-    fn make(alloc: Global, reader: &mut TokenReader<'_>, depth: usize) -> Option<TurnsText> {
+    fn make(alloc: Global, reader: &mut Tokens<'_>, depth: usize) -> Option<TurnsText> {
         let fields: TurnsFields<CarriedOut> = take_object(alloc, reader, depth)?;
         let config = fields.config()?;
         let (carried_out, ask) = (fields.events?, fields.ask?);

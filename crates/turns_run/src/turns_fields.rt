@@ -9,15 +9,15 @@ ghost use Rattle.turns_run.specs.Streams.{HoldsFields};
 ghost use Rattle.turns_run.specs.declared.script.RawEvent.{RawEvent as TheRawEvent};
 
 use crate::script::{RawEvent, RawTurns};
-use json::Reader as TokenReader;
 use model::Config;
+use script_tokens::Tokens;
 use scripts::{Fields, Streamed, take_into_slot, take_object};
 use std::alloc::Global;
 use system_keys::{Bytes, Items};
 
 impl Streamed for RawTurns {
     #[tactic(auto, using(cluster_scripts::proofs::ConfigLemmas::within_limits))]
-    fn from_tokens(alloc: Global, reader: &mut TokenReader<'_>, depth: usize) -> Option<RawTurns> {
+    fn from_tokens(alloc: Global, reader: &mut Tokens<'_>, depth: usize) -> Option<RawTurns> {
         let fields: TurnsFields<Items<RawEvent>> = take_object(alloc, reader, depth)?;
         Some(RawTurns {
             config: fields.config()?,
@@ -35,7 +35,7 @@ pub(crate) trait FromEvents: Drop {
     /// Returns `None` as `Streamed` does.
     fn take(
         alloc: Global,
-        reader: &mut TokenReader<'_>,
+        reader: &mut Tokens<'_>,
         depth: usize,
         config: Option<Config>,
     ) -> Option<Self>
@@ -49,7 +49,7 @@ impl FromEvents for Items<RawEvent> {
 
     fn take(
         alloc: Global,
-        reader: &mut TokenReader<'_>,
+        reader: &mut Tokens<'_>,
         depth: usize,
         _config: Option<Config>,
     ) -> Option<Items<RawEvent>> {
@@ -86,12 +86,7 @@ impl<E: FromEvents> TurnsFields<E> {
     }
 
     // Takes the events, if none were taken before.
-    fn take_events(
-        &mut self,
-        alloc: Global,
-        reader: &mut TokenReader<'_>,
-        depth: usize,
-    ) -> Option<()>
+    fn take_events(&mut self, alloc: Global, reader: &mut Tokens<'_>, depth: usize) -> Option<()>
         ensures { IfSome result (λ _. (raws : List TheRawEvent) × (made : E)
             × Takes (list_shape event_shape) depth reader.old raws reader.new
             × E.is_from made raws
@@ -124,7 +119,7 @@ impl<E: FromEvents> Fields for TurnsFields<E> {
     fn take_field(
         &mut self,
         alloc: Global,
-        reader: &mut TokenReader<'_>,
+        reader: &mut Tokens<'_>,
         depth: usize,
         name: &str,
     ) -> Option<()> {

@@ -88,6 +88,8 @@ impl<N: Naming> Desk<N> {
             → Serves self.new pending.plain.row }
         ensures other { pending.plain.resolver ≢ self.old.column.resolver → self.new ≡ self.old }
         ensures late { IsTrue self.old.closed → OnlyWantsMemory self.old self.new }
+        ensures none_due { IsFalse self.old.closed → pending.plain.resolver ≡ self.old.column.resolver
+            → IsNoneDue self.new (next_row self.new guard.new) }
         ensures closed { pending.plain.resolver ≡ self.old.column.resolver → IsTrue self.new.closed
             → IsTrue guard.new.closed }
     {

@@ -9,7 +9,8 @@ ghost use Rattle.endings.specs.Distances.{TheOneAheadHasTheMetadataOfTheOther};
 ghost use Rattle.endings.specs.Distances.{ItLacksItsUnfinishedRecords};
 ghost use Rattle.endings.specs.Distances.{OnceFinishedItLacksOnlyOthers, TheyMayBeAnyRowsApart};
 ghost use Rattle.endings.specs.Distances.{RememberedRowsFollowTheSlowest};
-ghost use Rattle.endings.specs.Distances.{FinishedRowsWereReached, TheSlowestBoundsWhatIsRemembered};
+ghost use Rattle.endings.specs.Distances.{FinishedRowsWereReached, SomeProxyIsSlowest};
+ghost use Rattle.endings.specs.Distances.{TheSlowestBoundsWhatIsRemembered};
 
 /// A proxy knows every row up to the row of the last record it finished, and no further one. Of
 /// two proxies the one at the later version knows at least as many rows.
@@ -47,9 +48,10 @@ pub fn unbounded_lag_law()
 
 /// A resolver remembers the rows that it has judged after the last record of the slowest proxy. A
 /// proxy has reached each row that it knows. So what a resolver remembers, and what the slowest proxy
-/// knows, are together at most the rows judged.
+/// knows, are together at most the rows judged. There always is a slowest proxy.
 pub fn remembered_rows_law()
     ensures rows { RememberedRowsFollowTheSlowest }
     ensures reached { FinishedRowsWereReached }
     ensures bound { TheSlowestBoundsWhatIsRemembered }
+    ensures some { SomeProxyIsSlowest }
 {}

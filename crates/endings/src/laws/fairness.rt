@@ -3,7 +3,7 @@
 
 ghost use Rattle.endings.specs.Fairness.{FairSegmentsFinishByWork, FairSegmentsFinishByRows};
 ghost use Rattle.endings.specs.Fairness.{RoundsAreFair, RoundsFinishByWork, RoundsFinishByRows};
-ghost use Rattle.endings.specs.Fairness.{FairSchedulesFinishAll};
+ghost use Rattle.endings.specs.Fairness.{FairSchedulesFinishAll, SomeScheduleIsFair};
 
 /// Each event that can be done when a segment begins comes in that segment. Then all records are
 /// finished after as many segments as work is left, and after one more than there are rows.
@@ -21,7 +21,8 @@ pub fn rounds_finish_all_law()
 {}
 
 /// A schedule without end, in which each event that can be done at some time comes then or later,
-/// finishes all records.
+/// finishes all records. From every sound world there is one.
 pub fn fair_schedule_finishes_law()
-    ensures { FairSchedulesFinishAll }
+    ensures finishes { FairSchedulesFinishAll }
+    ensures there { SomeScheduleIsFair }
 {}

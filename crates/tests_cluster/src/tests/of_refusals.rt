@@ -5,25 +5,34 @@ use crate::tests::starting::{Cluster, Inboxes, Line, blank, requests, rows_after
 use crate::tests::stories::{InboxStory, Story, tell};
 use agreed_ledger::Naming;
 use inboxes::{Channels, FreshEnd};
-use locked_cluster::Refusal;
+use locked_cluster::{AllResolvers, Refusal};
 use std::alloc::Global;
 use std::process::Abort;
 use std::sync::Wait;
 use std::test::Fail;
-use testing::{EMPTY_TRANSACTION, TransactionLine};
+use testing::{EMPTY_TRANSACTION, TransactionLine, is_memory_refused};
 use workers::{Open, PendingRequest, ProxyInboxes, ResolverWorker};
 
 /// A batch of proxy 0, which writes one key.
-pub(crate) const ONE: &[Line<'static>] = &[(
+const WRITE: Line<'static> = (
     0,
     &[TransactionLine {
         writes: &[(b"a", b"b")],
         ..EMPTY_TRANSACTION
     }],
-)];
+);
+
+/// It alone.
+pub(crate) const ONE: &[Line<'static>] = &[WRITE];
 
 /// It is begun.
 pub(crate) const BEGIN_ONE: &[Step] = &[(0, 0, None)];
+
+/// The same twice.
+pub(crate) const TWO: &[Line<'static>] = &[WRITE, WRITE];
+
+/// Both are begun.
+pub(crate) const BEGIN_TWO: &[Step] = &[(0, 0, None), (1, 0, None)];
 
 /// What a worker of resolver 0 is refused with that gets this end.
 fn refusal_of_misplaced_end<N: Naming, M: Channels>(
@@ -50,7 +59,28 @@ fn refusal_of_foreign_inboxes<N: Naming, M: Channels, R: AllocGlobal + Wait>(
     resolve_begun(rt, side, proxy, record).0
 }
 
-/// Both ways to ask by the inboxes of another proxy are refused.
+/// What proxy 0 is refused with that asks all resolvers for the record, one after another, once the first of
+/// them is closed. Asks once more after a failed allocation.
+fn refusal_of_closed_resolver<N: Naming, R: AllocGlobal + Wait>(
+    rt: &R,
+    cluster: &Cluster<'_, N>,
+    rows: &mut Vec<Phase<N>>,
+) -> Option<Refusal> {
+    let proxy = cluster.proxy(0)?;
+    drop(cluster.resolvers().first()?.close(rt));
+    let Ok(asking) = AllResolvers::new(cluster.resolvers()) else {
+        return None;
+    };
+    let (refusal, back) = resolve_begun(rt, &asking, proxy, rows.pop()?);
+    match refusal {
+        Some(Refusal::OutOfMemory) if is_memory_refused(rt.alloc()) => {
+            resolve_begun(rt, &asking, proxy, back).0
+        }
+        refusal => refusal,
+    }
+}
+
+/// Both ways to ask by the inboxes of another proxy are refused, and so is a closed resolver.
 fn are_refused<N: Naming, M: Channels, R: Abort + AllocGlobal + Wait>(
     rt: &R,
     alloc: Global,
@@ -63,6 +93,8 @@ fn are_refused<N: Naming, M: Channels, R: Abort + AllocGlobal + Wait>(
     assert!(rt; asked == Some(Refusal::NotMine));
     let asked = refusal_of_foreign_inboxes(rt, cluster, side, &mut rows);
     assert!(rt; asked == Some(Refusal::NotMine));
+    let asked = refusal_of_closed_resolver(rt, cluster, &mut rows);
+    assert!(rt; asked == Some(Refusal::Closed));
 }
 
 /// Ends come to another resolver, and requests are asked by another proxy.
@@ -72,7 +104,7 @@ pub(crate) fn misplace_ends<N: Naming, M: Channels, R: Abort + AllocGlobal + Wai
     cluster: &Cluster<'_, N>,
     inboxes: Inboxes<N, M>,
 ) -> Result<(), Fail> {
-    let rows = rows_after(rt, alloc, cluster, ONE, BEGIN_ONE)?;
+    let rows = rows_after(rt, alloc, cluster, TWO, BEGIN_TWO)?;
     let Inboxes { ends, sides } = inboxes;
     let mut ends = ends;
     assert!(rt;
@@ -93,7 +125,7 @@ fn other_resolvers_ends_and_other_proxies_requests_are_refused(
     tell(
         &rt,
         alloc,
-        blank(alloc, 1, 2, 2)?,
+        blank(alloc, 2, 2, 2)?,
         &[0, 1],
         &Story::OfInboxes(InboxStory::Misplaced),
     )

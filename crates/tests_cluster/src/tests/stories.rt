@@ -6,6 +6,7 @@ use crate::tests::commits::Commit;
 use crate::tests::of_commits::commit_in_order;
 use crate::tests::of_gates::hold_back;
 use crate::tests::of_held_requests::ask_later_first;
+use crate::tests::of_left_requests::leave_held;
 use crate::tests::of_meetings::meet_twice;
 use crate::tests::of_phases::go_in_odd_order;
 use crate::tests::of_refusals::misplace_ends;
@@ -56,6 +57,8 @@ pub(crate) enum InboxStory {
     Repeated,
     /// Requests for a later record come before those for an earlier one.
     LaterFirst,
+    /// A request is still held back when all have ended.
+    LeftHeld,
     /// Proxies follow a plan.
     Planned(&'static Trial),
 }
@@ -139,6 +142,7 @@ fn tell_with<
         InboxStory::Gated => hold_back(rt, alloc, cluster, inboxes),
         InboxStory::Repeated => repeat(rt, alloc, cluster, inboxes),
         InboxStory::LaterFirst => ask_later_first(rt, alloc, cluster, inboxes),
+        InboxStory::LeftHeld => leave_held(rt, alloc, cluster, inboxes),
         InboxStory::Planned(trial) => try_out(rt, alloc, cluster, inboxes, *trial),
     }
 }

@@ -224,12 +224,7 @@ fn own_part(alloc: Global, number: usize, is_read: bool) -> Result<Part, Fail> {
     } else {
         (none(alloc), own)
     };
-    Ok(Part {
-        number,
-        snapshot: 0,
-        reads,
-        writes,
-    })
+    Ok(Part::new(alloc, number, 0, reads, writes)?)
 }
 
 /// Whether the history gives these verdicts on a share of many such parts.

@@ -10,4 +10,4 @@ pub returns : goal.returns
 returns c =
     let range : Range = record { begin = c.args.begin.now; end = c.args.end.now } in
     let test : ℕ → Bool = λ r. some_start [] c.args.pieces.now.entries (takes_later c.args.walk r) range in
-    c.of_flags.ensures ∙ first_flagged test c.args.resolvers 64 c.walk_range.new.flags c.requires.few c.walk_range.ensures
+    c.of_flags.ensures ∙ first_flagged test c.args.resolvers c.all-flags.result c.walk_range.new.flags c.requires.few c.all-flags.ensures c.walk_range.ensures

@@ -12,5 +12,5 @@ returns-then-owner-bound c =
     let later = c.args.owners.now in
     let i = c.loop-i.i - 1 in
     let o : LaterOwner = get_or later i (record { date = 0; resolver = 0 }) in
-    walk_stopped later c.args.bound c.args.flags.now i c.loop-i.i c.loop-i.flags c.flag_resolver.new.flags o (omega arith) (omega arith) (any_place later i (record { date = 0; resolver = 0 }) o (omega arith))
-    c.if-owner-bound.true c.loop-i.invariant c.flag_resolver.ensures
+    walk_stopped later c.args.bound c.args.flags.now i c.loop-i.i c.loop-i.flags c.flag.new.self o (omega arith) (omega arith) (any_place later i (record { date = 0; resolver = 0 }) o (omega arith))
+    c.if-owner-bound.true c.loop-i.invariant c.flag.ensures

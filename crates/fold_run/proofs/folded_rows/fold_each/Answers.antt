@@ -1,7 +1,6 @@
-use Rattle.std.proofs.Common.{◌≡◌, ◌++◌, ◌∷◌, [], None, arith}
-use Rattle.json.specs.Json.{after_end_array}
+use Rattle.std.proofs.Common.{◌≡◌, ◌++◌, ◌∷◌, [], arith}
 use Rattle.scripts.proofs.StreamLemmas.{taken_shorter}
-use Rattle.scripts.proofs.StreamListLemmas.{so_far_start, so_far_turn, so_far_end}
+use Rattle.scripts.proofs.StreamListLemmas.{no_end, so_far_start, so_far_turn, so_far_end}
 use Rattle.fold_run.specs.Shapes.{row_shape}
 use Rattle.fold_run.proofs.FoldingLemmas.{fold_end, fold_start, fold_turn}
 use Rattle.fold_run.proofs.folded_rows.fold_each.Goals as goal
@@ -20,10 +19,12 @@ rows-preserved c =
     let l = c.rows in
     let next = c.in_ok-next.ensures in
     let so_far = l.invariant in
-    let going : (after_end_array l.reader ≡ None) × (c.take_end_array.new.self ≡ l.reader) = grind arith in (
+    let going : c.take_end_array.new.self ≡ l.reader = grind arith in
+    let taken = rw going at next.1 in
+    let more = no_end row_shape c.args.depth l.reader next.0 c.fold_next.new.reader taken in (
       so_far.0 ++ next.0 ∷ [],
       so_far.1 ++ next.2.row ∷ [],
-      so_far_turn row_shape c.args.depth c.args.reader.now l.reader c.fold_next.new.reader so_far.0 next.0 so_far.2 going.0 (rw going.1 at next.1),
+      so_far_turn row_shape c.args.depth c.args.reader.now l.reader c.fold_next.new.reader so_far.0 next.0 so_far.2 more taken,
       fold_turn so_far.0 so_far.1 next.0 next.2.row l.folded c.in_ok-next.next so_far.3 next.2.next next.2.checked next.2.folded,
     )
 

@@ -7,4 +7,4 @@ use Rattle.metadata.proofs.key_set.next_key_is.Goals as goal
 pub returns-in-Some-clause-found : goal.returns-in-Some-clause-found
 returns-in-Some-clause-found c = λ made.
     listed_first c.in-Some.next.now c.next.new.self c.args.keys.now c.args.key.now c.in-Some.ensures.steps
-    (sym c.as_slice.ensures.value ∙ same_text c.as_slice.result.now c.args.key.now (sym made ∙ c.eq.ensures))
+    (same_text c.in-Some.next.now c.args.key.now (sym made ∙ c.eq.ensures))

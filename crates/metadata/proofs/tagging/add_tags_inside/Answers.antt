@@ -1,10 +1,9 @@
 -- A turn of the loop adds the tags of a row, unless it is hidden, and goes on after the run that the row is in.
-use Rattle.std.proofs.Common.{◌∙◌, ap, sym, subst, flat_map, filter, ℕ, List}
-use Rattle.std.specs.Global.{Vec}
-use Rattle.model.specs.Metadata.{Entries, entry_tags}
+use Rattle.std.proofs.Common.{◌∙◌, ap, sym, subst, flat_map, filter}
+use Rattle.model.specs.Metadata.{Entries, entry_tags, Entry}
 use Rattle.metadata.specs.ServerTables.{GiveTags}
 use Rattle.metadata.proofs.GatheredTags.{tags_gathered}
-use Rattle.metadata.specs.MapEntries.{entry_from, entries_of, is_serving_inside}
+use Rattle.metadata.specs.MapEntries.{is_serving_inside}
 use Rattle.metadata.proofs.Tags.{added}
 use Rattle.metadata.proofs.KeptTags.{rows_passing, rows_rest, row_added}
 use Rattle.metadata.specs.HiddenRuns.{Run, is_serving_after}
@@ -24,18 +23,18 @@ loop-key-init c =
 
 pub loop-key-preserved : goal.loop-key-preserved
 loop-key-preserved c =
-    let entry : Vec ℕ × List ℕ = (c.in-Some.key.now, c.in-Some.row.now) in
+    let entry : Entry = (c.in-Some.key.now, c.in-Some.row.now) in
     let steps = c.in-Some.ensures.steps in
     let view = c.args.entries.now in
     let servers = c.entries.inside.servers.now.tags in
     let so_far =
-    inside_next view (entries_of c.next.new.self) c.entries.inside.hidden.now (entry_from entry) c.loop-key.tags.keys c.add_unless_hidden.new.tags.keys _
+    inside_next view c.next.new.self c.entries.inside.hidden.now entry c.loop-key.tags.keys c.add_unless_hidden.new.tags.keys _
     (λ hides. c.in_ok-add_unless_hidden.ensures.hides hides)
     (λ shows.
     c.in_ok-add_unless_hidden.ensures.shows shows
     ∙ ap (added c.loop-key.tags.keys) (c.new-row_tags.ensures ∙ tags_gathered servers view c.in-Some.row.now (subst (GiveTags servers) c.entries.view_is c.entries.invariant.1))
-    ∙ row_added view c.loop-key.tags.keys (entry_from entry))
-    (ap (λ (es : List (Vec ℕ × List ℕ)). added c.loop-key.tags.keys (flat_map (entry_tags view) (filter (is_left c.entries.inside.hidden.now) (entries_of es)))) (sym steps) ∙ c.loop-key.invariant.added) in
+    ∙ row_added view c.loop-key.tags.keys entry)
+    (ap (λ (es : Entries). added c.loop-key.tags.keys (flat_map (entry_tags view) (filter (is_left c.entries.inside.hidden.now) es))) (sym steps) ∙ c.loop-key.invariant.added) in
     record {
       added = so_far;
       rows = rows_rest c.entries.inside.entries.now entry c.next.new.self c.loop-key.inside steps c.loop-key.invariant.rows;
@@ -46,8 +45,8 @@ loop-key-preserved c =
 -- the entries after the last key of the run that the entry is in
 jump : (c : goal.In_ok-inside-2) → IsJumpOn c.entries.inside.hidden.now c.entries.inside.entries.now c.args.range.now c.next.new.self c.in_ok-inside-2.inside
 jump c =
-    let entry : Vec ℕ × List ℕ = (c.in-Some.key.now, c.in-Some.row.now) in
-    let run : Run = (c.in-Some-run_of.field-0-0.now.items, c.in-Some-run_of.last.now.items) in
+    let entry : Entry = (c.in-Some.key.now, c.in-Some.row.now) in
+    let run : Run = (c.in-Some-run_of.field-0-0.now, c.in-Some-run_of.last.now) in
     let rows = c.entries.inside.entries.now in
     jump_on c.entries.inside.hidden.now rows c.args.range.now c.next.new.self c.in_ok-inside-2.inside c.loop-key.inside entry run c.loop-key.invariant.order c.in-Some.ensures.steps c.loop-key.invariant.back
     (rows_rest rows entry c.next.new.self c.loop-key.inside c.in-Some.ensures.steps c.loop-key.invariant.rows)
@@ -56,21 +55,21 @@ jump c =
 
 pub loop-key-preserved-in-Some-run_of : goal.loop-key-preserved-in-Some-run_of
 loop-key-preserved-in-Some-run_of c =
-    let entry : Vec ℕ × List ℕ = (c.in-Some.key.now, c.in-Some.row.now) in
+    let entry : Entry = (c.in-Some.key.now, c.in-Some.row.now) in
     let steps = c.in-Some.ensures.steps in
     let view = c.args.entries.now in
     let servers = c.entries.inside.servers.now.tags in
     let so_far =
-    inside_next view (entries_of c.next.new.self) c.entries.inside.hidden.now (entry_from entry) c.loop-key.tags.keys c.add_unless_hidden.new.tags.keys _
+    inside_next view c.next.new.self c.entries.inside.hidden.now entry c.loop-key.tags.keys c.add_unless_hidden.new.tags.keys _
     (λ hides. c.in_ok-add_unless_hidden.ensures.hides hides)
     (λ shows.
     c.in_ok-add_unless_hidden.ensures.shows shows
     ∙ ap (added c.loop-key.tags.keys) (c.new-row_tags.ensures ∙ tags_gathered servers view c.in-Some.row.now (subst (GiveTags servers) c.entries.view_is c.entries.invariant.1))
-    ∙ row_added view c.loop-key.tags.keys (entry_from entry))
-    (ap (λ (es : List (Vec ℕ × List ℕ)). added c.loop-key.tags.keys (flat_map (entry_tags view) (filter (is_left c.entries.inside.hidden.now) (entries_of es)))) (sym steps) ∙ c.loop-key.invariant.added) in
+    ∙ row_added view c.loop-key.tags.keys entry)
+    (ap (λ (es : Entries). added c.loop-key.tags.keys (flat_map (entry_tags view) (filter (is_left c.entries.inside.hidden.now) es))) (sym steps) ∙ c.loop-key.invariant.added) in
     record {
       added = ap (λ (list : Entries). added c.add_unless_hidden.new.tags.keys (flat_map (entry_tags view) list)) (jump c).left ∙ so_far;
-      rows = rows_passing c.entries.inside.entries.now (is_serving_after c.in-Some-run_of.last.now.items c.args.range.now) c.in_ok-inside-2.inside c.loop-key.invariant.order c.in_ok-inside-2.ensures;
+      rows = rows_passing c.entries.inside.entries.now (is_serving_after c.in-Some-run_of.last.now c.args.range.now) c.in_ok-inside-2.inside c.loop-key.invariant.order c.in_ok-inside-2.ensures;
       back = (jump c).back_is;
       order = c.loop-key.invariant.order;
     }
@@ -81,7 +80,7 @@ loop-key-smaller-in-Some-run_of c =
 
 pub serving_after-requires : goal.serving_after-requires
 serving_after-requires c =
-    run_inside c.entries.inside.entries.now c.args.range.now (c.in-Some.key.now, c.in-Some.row.now) c.next.new.self c.loop-key.inside c.in-Some-run_of.last.now.items c.in-Some.ensures.steps c.loop-key.invariant.back c.in-Some-run_of.ensures.reaches
+    run_inside c.entries.inside.entries.now c.args.range.now (c.in-Some.key.now, c.in-Some.row.now) c.next.new.self c.loop-key.inside c.in-Some-run_of.last.now c.in-Some.ensures.steps c.loop-key.invariant.back c.in-Some-run_of.ensures.reaches
 
 pub returns : goal.returns
-returns c = ap (λ (es : List (Vec ℕ × List ℕ)). added c.loop-key.tags.keys (flat_map (entry_tags c.args.entries.now) (filter (is_left c.entries.inside.hidden.now) (entries_of es)))) (sym c.in_default.ensures.steps.0) ∙ c.loop-key.invariant.added
+returns c = ap (λ (es : Entries). added c.loop-key.tags.keys (flat_map (entry_tags c.args.entries.now) (filter (is_left c.entries.inside.hidden.now) es))) (sym c.in_default.ensures.steps.0) ∙ c.loop-key.invariant.added

@@ -4,4 +4,4 @@ use Rattle.request_builder.specs.AskedResolvers.{asked_by}
 use Rattle.request_builder.proofs.asked_resolvers.asked_lists.Given as goal
 
 abbrev pub invariant-loop-asking : goal.invariant-loop-asking
-invariant-loop-asking l = l.lists.items ≡ map (asked_by l.resolvers) (take l.asking-index l.askings)
+invariant-loop-asking l = l.lists.items ≡ map (asked_by l.owners.resolvers) (take l.asking-index l.askings)

@@ -5,4 +5,4 @@ use Rattle.scripts.proofs.stream_objects.take_object.Goals as goal
 pub returns : goal.returns
 returns g c =
     if_some_weaker c.take_fields.result
-    (λ fields read. (read.0, taken_object c.args.depth c.args.reader.now c.take_begin_object.new.reader c.take_fields.new.reader read.0 (grind arith) (omega arith) read.1, read.2)) c.take_fields.ensures
+    (λ fields read. (read.0, taken_object c.args.depth c.args.reader.now c.take_begin_object.new.self c.take_fields.new.reader read.0 (grind arith) (omega arith) read.1, read.2)) c.take_fields.ensures

@@ -1,8 +1,7 @@
-use Rattle.std.proofs.Common.{◌≡◌, ◌++◌, ◌∷◌, [], None, arith, refl}
+use Rattle.std.proofs.Common.{◌≡◌, ◌++◌, ◌∷◌, [], arith, refl}
 use Rattle.std.specs.Prelude.{string_bytes}
-use Rattle.json.specs.Json.{after_end_array}
 use Rattle.scripts.proofs.StreamLemmas.{taken_shorter}
-use Rattle.scripts.proofs.StreamListLemmas.{so_far_start, so_far_turn, so_far_end}
+use Rattle.scripts.proofs.StreamListLemmas.{no_end, so_far_start, so_far_turn, so_far_end}
 use Rattle.turns_run.specs.Checks.{checked_event}
 use Rattle.turns_run.specs.Shapes.{event_shape}
 use Rattle.scripts.proofs.CheckLemmas.{checked_turn}
@@ -23,10 +22,12 @@ events-preserved c =
     let l = c.events in
     let carried_out = c.in_ok-carry_out_next.ensures in
     let so_far = l.invariant in
-    let going : (after_end_array l.reader ≡ None) × (c.take_end_array.new.self ≡ l.reader) = grind arith in (
+    let going : c.take_end_array.new.self ≡ l.reader = grind arith in
+    let taken = rw going at carried_out.2 in
+    let more = no_end event_shape c.args.depth l.reader carried_out.0 c.carry_out_next.new.reader taken in (
       so_far.0 ++ carried_out.0 ∷ [],
       so_far.1 ++ carried_out.1 ∷ [],
-      so_far_turn event_shape c.args.depth c.args.reader.now l.reader c.carry_out_next.new.reader so_far.0 carried_out.0 so_far.2 going.0 (rw going.1 at carried_out.2),
+      so_far_turn event_shape c.args.depth c.args.reader.now l.reader c.carry_out_next.new.reader so_far.0 carried_out.0 so_far.2 more taken,
       checked_turn checked_event so_far.0 so_far.1 carried_out.0 carried_out.1 so_far.3 carried_out.3,
       carry_out_turn so_far.1 (string_bytes c.args.text.now) c.args.world.now (string_bytes l.text) l.world carried_out.1 (string_bytes c.carry_out_next.new.text) c.carry_out_next.new.world so_far.4 carried_out.4.printed carried_out.4.carried_out,
     )

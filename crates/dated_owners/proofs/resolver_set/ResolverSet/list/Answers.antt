@@ -1,11 +1,7 @@
--- The flags of the cluster's resolvers are the first ones.
-use Rattle.std.proofs.Common.{◌∙◌, arith}
+-- Those that are flagged are those of the set.
+use Rattle.std.proofs.Common.{◌∙◌}
 use Rattle.std.proofs.lemmas.Result.{IfOk-weaker}
-use Rattle.dated_owners.proofs.FlagLaws.{listed_front}
 use Rattle.dated_owners.proofs.resolver_set.ResolverSet.list.Goals as goal
 
 pub returns : goal.returns
-returns c =
-    IfOk-weaker c.flagged_resolvers.result _ _
-    (λ list is. is ∙ listed_front c.self.inside.flags c.self.inside.resolvers (omega (arith, c.self.invariant)) ∙ c.self.view_is)
-    c.flagged_resolvers.ensures
+returns c = IfOk-weaker c.list.result _ _ (λ list is. is ∙ c.self.view_is) c.list.ensures

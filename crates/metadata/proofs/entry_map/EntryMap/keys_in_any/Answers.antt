@@ -1,8 +1,7 @@
 -- A range joins the run that it begins in, or begins a new one, and its keys beyond the run are listed.
-use Rattle.std.proofs.Common.{◌≡◌, ◌∙◌, ap, sym, refl, take, ◌+◌, ◌||◌, List, ℕ, Bor}
+use Rattle.std.proofs.Common.{◌≡◌, ◌∙◌, ap, sym, refl, take, ◌+◌, ◌||◌, List, Bor}
 use Rattle.std.specs.Global.{Vec}
 use Rattle.system_keys.specs.Keys.{Key, Range, holds}
-use Rattle.metadata.specs.MapEntries.{bytes_of_keys}
 use Rattle.metadata.specs.Overwrites.{lent_ranges, is_held}
 use Rattle.metadata.proofs.HeldKeys.{Joins, joins_anew, joins_between, held_next, held_more, held_already}
 use Rattle.metadata.proofs.entry_map.EntryMap.keys_in_any.Goals as goal
@@ -26,12 +25,12 @@ loop-range-preserved c =
     elim c.if-is_key_below.branch [
       | then-is_key_below+in_ok-list_keys_between w ↦
           held_more c.if-not-is_between.from.now c.if-not-is_between.up_to.now w.end-then-is_key_below.result.now c.if-is_key_below.up_to.now done after range
-          (bytes_of_keys c.loop-range.keys.items) (bytes_of_keys c.if-is_key_below.keys.items) c.args.self.now c.args.self.now joins w.end-then-is_key_below.ensures.value
-          (ap (λ (key : Bor Key). key.now) w.up_to-is ∙ w.end-up_to.ensures.value) (ap (λ (keys : Vec (Vec ℕ)). bytes_of_keys keys.items) w.keys-is ∙ w.in_ok-list_keys_between.ensures) refl
+          c.loop-range.keys.items c.if-is_key_below.keys.items c.args.self.now c.args.self.now joins w.end-then-is_key_below.ensures.value
+          (ap (λ (key : Bor Key). key.now) w.up_to-is ∙ w.end-up_to.ensures.value) (ap (λ (keys : Vec Key). keys.items) w.keys-is ∙ w.in_ok-list_keys_between.ensures) refl
           next c.loop-range.invariant.listed
       | else-is_key_below w ↦
           held_already c.if-not-is_between.from.now c.if-not-is_between.up_to.now c.end.result.now c.if-is_key_below.up_to.now done after range
-          (bytes_of_keys c.loop-range.keys.items) (bytes_of_keys c.if-is_key_below.keys.items) c.args.self.now joins (sym c.is_key_below.ensures ∙ w.if-is_key_below.false) c.end.ensures.value
-          (ap (λ (key : Bor Key). key.now) w.up_to-is) (ap (λ (keys : Vec (Vec ℕ)). bytes_of_keys keys.items) w.keys-is)
+          c.loop-range.keys.items c.if-is_key_below.keys.items c.args.self.now joins (sym c.is_key_below.ensures ∙ w.if-is_key_below.false) c.end.ensures.value
+          (ap (λ (key : Bor Key). key.now) w.up_to-is) (ap (λ (keys : Vec Key). keys.items) w.keys-is)
           next c.loop-range.invariant.listed
     ]

@@ -1,7 +1,7 @@
 -- A range begins below its end; and the entries of the map between its ends are the keyServers entries inside.
 use Rattle.std.proofs.Common.{◌∙◌, ap, filter, subst}
 use Rattle.model.specs.Metadata.{Entries, IsInOrder}
-use Rattle.metadata.specs.MapEntries.{entries_of, is_serving_inside}
+use Rattle.metadata.specs.MapEntries.{is_serving_inside}
 use Rattle.metadata.proofs.ServingEntries.{between_inside, ends_forward}
 use Rattle.metadata.proofs.entry_map.EntryMap.serving_inside.Goals as goal
 
@@ -10,7 +10,7 @@ range-requires c = ends_forward c.in_ok-begin.begin c.in_ok-end.end c.args.range
 
 pub returns-clause-found : goal.returns-clause-found
 returns-clause-found c =
-    ap entries_of (c.range.ensures.between tt)
+    c.range.ensures.between tt
     ∙ between_inside c.self.inside.values.entries c.in_ok-begin.begin c.in_ok-end.end c.args.range.now (rw (← c.begin.ensures.value) c.in_ok-begin.ensures) (rw (← c.end.ensures.value) c.in_ok-end.ensures)
     ∙ ap (λ (entries : Entries). filter (is_serving_inside c.args.range.now) entries) c.self.view_is
 

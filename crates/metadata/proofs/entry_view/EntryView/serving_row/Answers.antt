@@ -14,6 +14,6 @@ returns-in_default c =
 
 pub returns : goal.returns
 returns c =
-    let shows : is_listed c.self.inside.hidden.now c.in-Some.found.now.items ≡ false = search rules in
-    shown_serves c.self.inside.hidden.now c.self.inside.entries.now c.args.key.now (c.in-Some.found.now.items, c.in-Some.row.now) (ap (option_map lent_entry) (sym c.in-Some.is) ∙ c.in_ok-found.ensures.found) shows
+    let shows : is_listed c.self.inside.hidden.now c.in-Some.found.now ≡ false = search rules in
+    shown_serves c.self.inside.hidden.now c.self.inside.entries.now c.args.key.now (c.in-Some.found.now, c.in-Some.row.now) (ap (option_map lent_entry) (sym c.in-Some.is) ∙ c.in_ok-found.ensures.found) shows
     ∙ ap (λ (entries : Entries). option_map (λ (entry : Entry). entry.1) (serving_entry (key_servers_entries entries) c.args.key.now)) c.self.view_is

@@ -1,6 +1,6 @@
 -- The table gives the tags of the entries.
 use Rattle.std.proofs.Common.{◌∙◌, ap}
-use Rattle.metadata.specs.OwnRoutes.{routes_by}
+use Rattle.metadata.specs.Routes.{routes_by}
 use Rattle.metadata.proofs.MetadataServers.{servers_give_tags}
 use Rattle.metadata.proofs.RouteWalks.{all_routes}
 use Rattle.metadata.proofs.route_walk.RouteWalk.new.Goals as goal

@@ -1,12 +1,11 @@
 -- The limits of the ranges and of the changes still hold.
 use Rattle.std.proofs.Common.{map}
-use Rattle.std.specs.Arc.{arc_value}
 use Rattle.mutation.specs.Admitted.{from_admitted}
 use Rattle.mutation.proofs.LimitLaws.{stamped_faultless}
 use Rattle.mutation.proofs.admitted.Admitted.stamped.Goals as goal
 
 pub of_parts-requires : goal.of_parts-requires
 of_parts-requires c =
-    let ranges = arc_value c.self.inside.ranges in
-    rw (c.in_ok-clone.ensures.cases, c.in_ok-stamped_changes.ensures, c.as_slice.ensures)
+    let ranges = c.self.inside.ranges in
+    rw (c.in_ok-copy.ensures, c.in_ok-stamped_changes.ensures, c.as_slice.ensures)
     (stamped_faultless c.args.version c.args.number (record { snapshot = c.self.inside.snapshot; reads = ranges.reads; writes = ranges.writes; mutations = map from_admitted c.self.inside.mutations; lock_aware = c.self.inside.lock_aware }) c.self.invariant)

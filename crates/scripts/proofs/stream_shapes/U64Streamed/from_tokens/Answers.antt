@@ -4,4 +4,5 @@ use Rattle.scripts.proofs.stream_shapes.U64Streamed.from_tokens.Goals as goal
 
 pub returns-then-number-le-NUMBER_LIMIT : goal.returns-then-number-le-NUMBER_LIMIT
 returns-then-number-le-NUMBER_LIMIT c =
-    takes_number c.args._depth c.in_ok-digits.digits.now c.in_ok-number.number c.args.reader.now c.take_digits.new.reader c.in_ok-digits.ensures c.in_ok-number.ensures (omega arith)
+    let read = c.in_ok-number.ensures in
+    takes_number c.args._depth read.0 c.in_ok-number.number c.args.reader.now c.take_number.new.self read.1 read.2 (omega arith)

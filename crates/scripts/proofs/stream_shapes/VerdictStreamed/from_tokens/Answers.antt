@@ -5,10 +5,10 @@ use Rattle.scripts.proofs.StreamLemmas.{takes_text}
 use Rattle.scripts.proofs.stream_shapes.VerdictStreamed.from_tokens.Goals as goal
 
 pub returns-in-conflict : goal.returns-in-conflict
-returns-in-conflict c = takes_text verdict_shape c.args._depth (codes "conflict") c.args.reader.now c.take_text.new.reader Conflict (search rules) refl
+returns-in-conflict c = takes_text verdict_shape c.args._depth (codes "conflict") c.args.reader.now c.take_text.new.self Conflict (search rules) refl
 
 pub returns-in-too_old : goal.returns-in-too_old
-returns-in-too_old c = takes_text verdict_shape c.args._depth (codes "too_old") c.args.reader.now c.take_text.new.reader TooOld (search rules) refl
+returns-in-too_old c = takes_text verdict_shape c.args._depth (codes "too_old") c.args.reader.now c.take_text.new.self TooOld (search rules) refl
 
 pub returns-in-committed : goal.returns-in-committed
-returns-in-committed c = takes_text verdict_shape c.args._depth (codes "committed") c.args.reader.now c.take_text.new.reader Committed (search rules) refl
+returns-in-committed c = takes_text verdict_shape c.args._depth (codes "committed") c.args.reader.now c.take_text.new.self Committed (search rules) refl

@@ -31,12 +31,13 @@ use Rattle.system_keys.specs.contracts.range.KeyRange.{the_row as system_keys-Ke
 use Rattle.system_keys.specs.contracts.change.Change.{the_row as system_keys-Change}
 use Rattle.system_keys.specs.contracts.ordered_key.OrderedKey.{the_row as system_keys-OrderedKey}
 use Rattle.model.specs.contracts.moves.Move.{the_row as model-Move}
+use Rattle.model.specs.contracts.ranges.RangeLists.{the_row as model-RangeLists}
+use Rattle.model.specs.contracts.ranges.Ranges.{the_row as model-Ranges}
 use Rattle.model.specs.contracts.part.Part.{the_row as model-Part}
 use Rattle.model.specs.contracts.journal.StateTxn.{the_row as model-StateTxn}
 use Rattle.model.specs.contracts.journal.JournalRow.{the_row as model-JournalRow}
 use Rattle.model.specs.contracts.reply.Reply.{the_row as model-Reply}
 use Rattle.model.specs.contracts.unseen.StateMark.{the_row as model-StateMark}
-use Rattle.mutation.specs.contracts.ranges.Ranges.{the_row as mutation-Ranges}
 use Rattle.mutation.specs.contracts.stamped.Stamped.{the_row as mutation-Stamped}
 use Rattle.dated_owners.specs.contracts.later_owners.LaterOwners.{the_row as dated_owners-LaterOwners}
 use Rattle.dated_owners.specs.contracts.owner_map.OwnerMap.{the_row as dated_owners-OwnerMap}
@@ -51,8 +52,10 @@ use Rattle.metadata.specs.contracts.metadata.Metadata.{the_row as metadata-Metad
 use Rattle.request_builder.specs.contracts.moves.Moves.{the_row as request_builder-Moves}
 use Rattle.request_builder.specs.contracts.share.Share.{the_row as request_builder-Share}
 use Rattle.request_builder.specs.contracts.record.Record.{the_row as request_builder-Record}
+use Rattle.share_judge.specs.contracts.key_map.KeyMap.{the_row as share_judge-KeyMap}
 use Rattle.share_judge.specs.contracts.step_key.StepKey.{the_row as share_judge-StepKey}
 use Rattle.share_judge.specs.contracts.step_map.StepMap.{the_row as share_judge-StepMap}
+use Rattle.share_judge.specs.contracts.version_map.VersionMap.{the_row as share_judge-VersionMap}
 use Rattle.share_judge.specs.contracts.write_history.WriteHistory.{the_row as share_judge-WriteHistory}
 use Rattle.state_memory.specs.contracts.proxy_memory.ProxyMemory.{the_row as state_memory-ProxyMemory}
 use Rattle.state_memory.specs.contracts.resolver.Resolver.{the_row as state_memory-Resolver}
@@ -111,8 +114,20 @@ model-Move-send = search (system_keys-KeyRange-send, crosses, sendable) depth 60
 model-Move-sync : IsSync model-Move
 model-Move-sync = search (system_keys-KeyRange-sync, crosses, sendable) depth 60 fits 20000
 
+model-RangeLists-send : IsSend model-RangeLists
+model-RangeLists-send = search (system_keys-KeyRange-send, Items-send, crosses, sendable) depth 60 fits 20000
+
+model-RangeLists-sync : IsSync model-RangeLists
+model-RangeLists-sync = search (system_keys-KeyRange-sync, Items-sync, crosses, sendable) depth 60 fits 20000
+
+model-Ranges-send : IsSend model-Ranges
+model-Ranges-send = search (model-RangeLists-send, model-RangeLists-sync, crosses, sendable) depth 60 fits 20000
+
+model-Ranges-sync : IsSync model-Ranges
+model-Ranges-sync = search (model-RangeLists-send, model-RangeLists-sync, crosses, sendable) depth 60 fits 20000
+
 model-Part-send : IsSend model-Part
-model-Part-send = search (system_keys-KeyRange-send, Items-send, crosses, sendable) depth 60 fits 20000
+model-Part-send = search (system_keys-KeyRange-send, model-Ranges-send, Items-send, crosses, sendable) depth 60 fits 20000
 
 model-StateTxn-send : IsSend model-StateTxn
 model-StateTxn-send = search (system_keys-Change-send, system_keys-Change-sync, Items-send, SharedItems-send, crosses, sendable) depth 60 fits 20000
@@ -126,17 +141,11 @@ model-Reply-send = search (system_keys-Change-send, system_keys-Change-sync, Ite
 model-StateMark-send : IsSend model-StateMark
 model-StateMark-send = search (system_keys-Change-send, system_keys-Change-sync, SharedItems-send, crosses, sendable) depth 60 fits 20000
 
-mutation-Ranges-send : IsSend mutation-Ranges
-mutation-Ranges-send = search (system_keys-KeyRange-send, Items-send, crosses, sendable) depth 60 fits 20000
-
-mutation-Ranges-sync : IsSync mutation-Ranges
-mutation-Ranges-sync = search (system_keys-KeyRange-sync, Items-sync, crosses, sendable) depth 60 fits 20000
-
 mutation-Stamped-send : IsSend mutation-Stamped
-mutation-Stamped-send = search (system_keys-Change-send, mutation-Ranges-send, mutation-Ranges-sync, Items-send, crosses, sendable) depth 60 fits 20000
+mutation-Stamped-send = search (system_keys-Change-send, model-Ranges-send, Items-send, crosses, sendable) depth 60 fits 20000
 
 mutation-Stamped-sync : IsSync mutation-Stamped
-mutation-Stamped-sync = search (system_keys-Change-sync, mutation-Ranges-send, mutation-Ranges-sync, Items-sync, crosses, sendable) depth 60 fits 20000
+mutation-Stamped-sync = search (system_keys-Change-sync, model-Ranges-sync, Items-sync, crosses, sendable) depth 60 fits 20000
 
 dated_owners-LaterOwners-send : IsSend dated_owners-LaterOwners
 dated_owners-LaterOwners-send = search (crosses, sendable) depth 60 fits 20000
@@ -183,8 +192,14 @@ share_judge-StepKey-send = search (system_keys-OrderedKey-send, crosses, sendabl
 share_judge-StepMap-send : IsSend share_judge-StepMap
 share_judge-StepMap-send = search (share_judge-StepKey-send, crosses, maps.crosses, sendable) depth 60 fits 20000
 
+share_judge-KeyMap-send : IsSend share_judge-KeyMap
+share_judge-KeyMap-send = search (share_judge-StepKey-send, crosses, maps.crosses, sendable) depth 60 fits 20000
+
+share_judge-VersionMap-send : IsSend share_judge-VersionMap
+share_judge-VersionMap-send = search (share_judge-StepMap-send, share_judge-KeyMap-send, crosses, sendable) depth 60 fits 20000
+
 share_judge-WriteHistory-send : IsSend share_judge-WriteHistory
-share_judge-WriteHistory-send = search (share_judge-StepMap-send, crosses, sendable) depth 60 fits 20000
+share_judge-WriteHistory-send = search (share_judge-VersionMap-send, crosses, sendable) depth 60 fits 20000
 
 state_memory-ProxyMemory-send : IsSend state_memory-ProxyMemory
 state_memory-ProxyMemory-send = search (model-Reply-send, crosses, sendable) depth 60 fits 20000

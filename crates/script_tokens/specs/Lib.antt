@@ -1,0 +1,2 @@
+pub mod LeftTokens
+pub mod Spelled
