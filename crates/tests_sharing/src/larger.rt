@@ -4,4 +4,5 @@ mod beginning;
 mod committing;
 mod sizes;
 mod sizes_of_batches;
+mod sizes_of_calls;
 mod stories;

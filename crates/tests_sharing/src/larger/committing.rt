@@ -90,7 +90,7 @@ fn commit<N: Naming, R: Wait>(
 }
 
 /// How many moves the record of row 0 has.
-fn moves<N: Naming, R: Wait>(rt: &R, cluster: &Cluster<'_, N>) -> Option<usize> {
+pub(crate) fn moves<N: Naming, R: Wait>(rt: &R, cluster: &Cluster<'_, N>) -> Option<usize> {
     let guard = cluster.sequencer.lock(rt);
     Some(guard.records().get(cluster.ledger, 0)?.moves().len())
 }

@@ -1,14 +1,15 @@
 //! Tests of great batches, in a cluster without threads: as many transactions as one may have, and very
-//! many mutations, of which no document names a greatest number.
+//! many ranges and mutations, of which no document names a greatest number.
 
+use crate::larger::sizes::numbered_key;
 use model::{Config, Finished, Outcome};
-use mutation::{Admitted, Batch, Mutation, admit};
-use std::alloc::Global;
+use mutation::{Admitted, Batch, GivenRange, Mutation, admit};
+use std::alloc::{AllocError, Global};
 use std::test::Fail;
 use system_keys::Items;
 use testing::{
-    EMPTY_TRANSACTION, MutationLine, TransactionLine, admit_line, batch, batch_of, bytes, room,
-    transaction,
+    EMPTY_TRANSACTION, MutationLine, TransactionLine, admit_line, batch, batch_of, bytes,
+    given_range, room, transaction,
 };
 use turn_world::{Answer, Event, TurnWorld};
 
@@ -23,13 +24,13 @@ fn commit(world: &mut TurnWorld, row: usize, batch: Batch) -> Result<Finished, F
 }
 
 /// A cluster of one proxy and one resolver.
-fn cluster(alloc: Global) -> Result<TurnWorld, Fail> {
+pub(crate) fn cluster(alloc: Global) -> Result<TurnWorld, Fail> {
     let config = Config::new(1, 1, 100, 10)?;
     Ok(TurnWorld::new(alloc, &config)?)
 }
 
 /// How many transactions a batch has at most.
-const TRANSACTIONS: usize = 1_024;
+pub(crate) const TRANSACTIONS: usize = 1_024;
 
 const WRITE: TransactionLine<'static> = TransactionLine {
     writes: &[(b"k", b"l")],
@@ -65,14 +66,59 @@ fn each_part_of_the_greatest_share_is_judged(rt: HostRuntime) -> Result<(), Fail
     Ok(())
 }
 
+/// How many ranges a transaction reads, and how many it writes.
+const RANGES: usize = 10_000;
+
+/// The range of the key of this number alone.
+fn one_key(alloc: Global, number: usize) -> Result<GivenRange, AllocError> {
+    let [high, low] = numbered_key(number);
+    given_range(alloc, &[high, low], &[high, low, 0])
+}
+
+/// The ranges of many keys, one for each key.
+fn many_ranges(alloc: Global) -> Result<Items<GivenRange>, AllocError> {
+    let mut ranges = room(alloc, RANGES)?;
+    for number in 0..RANGES {
+        ranges.push(one_key(alloc, number)?)?;
+    }
+    Ok(Items::from(ranges))
+}
+
+/// A transaction that reads these ranges and writes them.
+fn touch_many(alloc: Global) -> Result<Admitted, Fail> {
+    let mut given = transaction(alloc, EMPTY_TRANSACTION)?;
+    given.reads = many_ranges(alloc)?;
+    given.writes = many_ranges(alloc)?;
+    Ok(admit(alloc, &given)?)
+}
+
+/// A transaction that reads the last of these keys, before any write.
+const READ_LAST: TransactionLine<'static> = TransactionLine {
+    reads: &[(b"\x27\x0f", b"\x27\x0f\x00")],
+    ..EMPTY_TRANSACTION
+};
+
+#[test]
+fn a_transaction_reads_and_writes_very_many_ranges(rt: HostRuntime) -> Result<(), Fail> {
+    let mut world = cluster(rt.alloc())?;
+    let mut one = room(rt.alloc(), 1)?;
+    one.push(touch_many(rt.alloc())?)?;
+    let finished = commit(&mut world, 0, batch_of(one)?)?;
+    assert!(rt; matches!(finished.outcomes.as_slice(), [Outcome::Committed { .. }]));
+    let finished = commit(&mut world, 1, batch(rt.alloc(), &[READ_LAST])?)?;
+    assert!(rt; matches!(finished.outcomes.as_slice(), [Outcome::Conflict]));
+    Ok(())
+}
+
 /// How many mutations a transaction has.
 const MUTATIONS: usize = 50_000;
 
 /// The key of the keyServers row of this number, in the order of the numbers.
 fn row_key(number: usize) -> [u8; 15] {
     let mut key = *b"\xff/keyServers/..";
-    key[13] = (number / 256 % 256) as u8;
-    key[14] = (number % 256) as u8;
+    let [high, low] = numbered_key(number);
+    key[13] = high;
+    key[14] = low;
     key
 }
 

@@ -4,7 +4,7 @@ ghost use Rattle.std.specs.Prelude.{◌≡◌};
 
 use crate::larger::beginning::{begin_three, leave_one_out};
 use crate::larger::committing::commit_over_three;
-use crate::larger::sizes::{ask_all_once, move_often, repeat_the_last};
+use crate::larger::sizes::{ask_all_once, learn_all_at_once, move_often, repeat_the_last};
 use agreed_ledger::{BlankLedger, Naming};
 use std::alloc::Global;
 use std::marker::Brand;
@@ -28,6 +28,8 @@ pub(crate) enum Story {
     AskedAtOnce,
     /// The last row is asked twice.
     RepeatedLast,
+    /// A proxy learns all rows by the last one.
+    LearnedAtOnce,
 }
 
 /// Tells the story of a new cluster.
@@ -65,5 +67,6 @@ fn tell_over<N: Naming, R: Abort + Wait>(
         Story::Moved => move_often(rt, alloc, &cluster),
         Story::AskedAtOnce => ask_all_once(rt, alloc, &cluster),
         Story::RepeatedLast => repeat_the_last(rt, alloc, &cluster),
+        Story::LearnedAtOnce => learn_all_at_once(rt, alloc, &cluster),
     }
 }

@@ -73,6 +73,8 @@ pub(crate) fn fill_a_column<N: Naming, R: Abort>(
         assert!(rt; sets(alloc, ledger, &mut column)?);
     }
     assert!(rt; has_all(ledger, &column));
+    let part = column.part(1, ROWS)?;
+    assert!(rt; (part.first(), part.end()) == (1, ROWS));
     assert!(rt; (column.end(), sets(alloc, ledger, &mut column)?) == (ROWS, false));
     Ok(())
 }
