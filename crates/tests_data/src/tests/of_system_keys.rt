@@ -9,7 +9,7 @@ use system_keys::{
     decode_location, decode_tag, encode_key_servers, encode_tag, encode_tag_teams, is_state,
     print_bytes, read_bytes,
 };
-use testing::{MutationLine, bytes, change, list, range, room, twice};
+use testing::{MutationLine, bytes, change, list, range, repeat_byte, room, text_room, twice};
 
 /// `server0000000001`.
 const SERVER_1: [u8; 16] = [
@@ -465,6 +465,27 @@ fn bytes_have_one_text(rt: HostRuntime) -> Result<(), Fail> {
         assert!(rt; is_read(rt.alloc(), *text, *bytes)?);
     }
     assert!(rt; bytes_by_call(rt.alloc(), "\\xFF").err() == Some(RowFault::BadText));
+    Ok(())
+}
+
+/// How many bytes the longest value has.
+const LONGEST: usize = 100_000;
+
+/// The text of that many bytes of 0, of which each takes four characters.
+fn longest_text(alloc: Global) -> Result<String, AllocError> {
+    let mut text = text_room(alloc, 4 * LONGEST)?;
+    for _ in 0..LONGEST {
+        text.push_str("\\x00")?;
+    }
+    Ok(text)
+}
+
+#[test]
+fn the_longest_value_has_one_text(rt: HostRuntime) -> Result<(), Fail> {
+    let value = repeat_byte(rt.alloc(), 0, LONGEST)?;
+    let text = longest_text(rt.alloc())?;
+    assert!(rt; is_printed(rt.alloc(), value.as_slice(), text.as_str())?);
+    assert!(rt; is_read(rt.alloc(), text.as_str(), value.as_slice())?);
     Ok(())
 }
 
