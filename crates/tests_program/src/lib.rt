@@ -11,6 +11,8 @@ pub use rehearsal::{rehearse, rehearse_session};
 pub use short_of_memory::ShortOfMemory;
 
 #[cfg(test)]
+mod great_batches;
+#[cfg(test)]
 mod great_sessions;
 #[cfg(test)]
 mod tests;
