@@ -260,10 +260,6 @@ any_next test ranges i range is =
 
 -- ---- the ranges of one part
 
--- where there is no range, nothing is written
-pub none_over : (version : ℕ) (starts : List Start) → AreOver (is_in_some []) version starts starts
-none_over version starts = record { at = λ key. refl; past = λ none. none }
-
 -- the ranges from i on, written over the steps so far, give what all give
 pub record AreWriting (version : ℕ) (ranges : List Range) (i : ℕ) (old new : List Start) : Type 0 where
   pub at : (key : Key) → cond (is_in_some (drop i ranges) key) version (last_from 0 new key) ≡ cond (is_in_some ranges key) version (last_from 0 old key)
@@ -289,16 +285,3 @@ one_written version ranges i range old mid new there is writing over =
     either true false n = refl
     either false true n = refl
     either false false n = refl
-
-no_range_left : (i : ℕ) (ranges : List Range) → length ranges ≤ i → drop i ranges ≡ []
-no_range_left zero [] past = refl
-no_range_left (suc i) [] past = refl
-no_range_left zero (range ∷ ranges) past = absurd (omega arith)
-no_range_left (suc i) (range ∷ ranges) past = no_range_left i ranges (omega arith)
-
-pub all_written : (version : ℕ) (ranges : List Range) (i : ℕ) (old new : List Start) → length ranges ≤ i → AreWriting version ranges i old new → AreOver (is_in_some ranges) version old new
-all_written version ranges i old new past writing =
-    record {
-      at = λ key. ap (λ (rs : List Range). cond (is_in_some rs key) version (last_from 0 new key)) (sym (no_range_left i ranges past)) ∙ writing.at key;
-      past = writing.past;
-    }
