@@ -15,6 +15,15 @@ use crate::status::RunStatus;
 use std::alloc::Global;
 use system_keys::OutOfMemory;
 
+/// What is printed of a script while it is read, and what was made for it.
+#[derive(Drop)]
+pub struct Printed<L: Drop> {
+    /// The lines.
+    pub text: String,
+    /// What was made to print them, and is needed no more.
+    pub leftover: L,
+}
+
 /// A kind of script: how one is read, and what is printed of it.
 pub trait ScriptKind {
     /// A script as it is written.
@@ -23,14 +32,18 @@ pub trait ScriptKind {
     /// A script whose keys, values and ranges are checked.
     type Script: Checked<Self::Raw>;
 
+    /// What is made to print a script as its tokens come.
+    type Leftover: Drop;
+
     ghost printed: { Self.Script → List ℕ };
 
     ghost output_to: { List ℕ → OutputView };
 
     /// Prints the lines of a script as its tokens come, where the kind needs no whole script.
     /// `None` decides nothing: the script is then read and printed.
-    fn stream(alloc: Global, bytes: &[u8]) -> Option<String>
-        ensures { IfSome result (λ text. output_to bytes.now ≡ done (string_bytes text)) };
+    fn stream(alloc: Global, bytes: &[u8]) -> Option<Printed<Self::Leftover>>
+        ensures { IfSome result
+            (λ printed. output_to bytes.now ≡ done (string_bytes printed.text)) };
 
     /// Prints the lines of a script. Fails only with `OutOfMemory`.
     fn print(alloc: Global, text: &mut String, script: Self::Script) -> Result<(), OutOfMemory>
@@ -42,15 +55,20 @@ pub trait ScriptKind {
 }
 
 /// The output for a script of this kind: what is printed of it, or its first fault (this project's
-/// profile). So the bytes are read twice at most: as their tokens come, and as a JSON value. Fails only
-/// with `OutOfMemory`.
-pub fn output_for<K: ScriptKind>(alloc: Global, bytes: Vec<u8>) -> Result<Output, OutOfMemory>
+/// profile). So the bytes are read twice at most: as their tokens come, and as a JSON value. What was made
+/// for a script that is printed as it comes goes into `leftover`. Fails only with `OutOfMemory`.
+pub fn output_for<K: ScriptKind>(
+    alloc: Global,
+    bytes: Vec<u8>,
+    leftover: &mut Option<K::Leftover>,
+) -> Result<Output, OutOfMemory>
     ensures output { IfOk result (IsOutput (K.output_to bytes.items)) }
     ensures answered { IfOk result (λ output. IsWholeText output.status) }
 {
-    if let Some(text) = K::stream(alloc, &bytes) {
+    if let Some(printed) = K::stream(alloc, &bytes) {
+        *leftover = Some(printed.leftover);
         return Ok(Output {
-            text,
+            text: printed.text,
             status: RunStatus::Done,
         });
     }
