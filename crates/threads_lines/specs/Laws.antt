@@ -1,6 +1,6 @@
--- What the end of a ledger and the line of an audit say: the contracts of laws.rt.
+-- What the end of a ledger, the line of an audit and the fault of a run say: the contracts of laws.rt.
 use Rattle.std.specs.Prelude.{◌≡◌, ◌-◌, ◌^◌, ◌≤◌, ⊤, ℕ, List, [], ◌∷◌, slice_get}
-use Rattle.std.specs.Prelude.{Some, Ok, Result}
+use Rattle.std.specs.Prelude.{true, false, Some, Ok, Result}
 use Rattle.model.specs.Configs.{Config}
 use Rattle.model.specs.Numbers.{ProxyNumber, Version}
 use Rattle.model.specs.Records.{Record, Follows}
@@ -8,9 +8,14 @@ use Rattle.agreed_ledger.specs.declared.refusal.Refusal.{Refusal}
 use Rattle.agreed_ledger.specs.declared.refusal.Refusal.TheVariants as refusals
 use Rattle.locked_cluster.specs.Proxies.{LockedProxyView}
 use Rattle.locked_cluster.specs.declared.audits.behind_by.BehindBy.{BehindBy}
+use Rattle.locked_cluster.specs.declared.commits.commit_fault.CommitFault.{CommitFault}
+use Rattle.locked_cluster.specs.declared.commits.commit_fault.CommitFault.TheVariants as phases
 use Rattle.locked_resolvers.specs.Resolvers.{LockedResolverView}
+use Rattle.locked_resolvers.specs.declared.refusal.Refusal.TheVariants as locked
 use Rattle.threads_lines.specs.Answers.{IsEndAfter}
+use Rattle.threads_lines.specs.Faults.{fault_with_workers, graver}
 use Rattle.threads_lines.specs.Meetings.{IsAuditLine, audit_line}
+use Rattle.threads_lines.specs.declared.faults.RunFault.TheVariants as faults
 
 -- ---- the end of a ledger
 
@@ -79,3 +84,24 @@ AllHaveReachedIfAnAuditIsOk =
     → slice_get proxies p ≡ Some v
     → IsAuditLine config proxies resolvers p (audit_line p reached_by_all)
     → HaveVersionOf v resolvers
+
+-- ---- how a run ends that fails
+
+-- a commit was refused memory, in whatever phase
+abbrev pub IsMemoryFault : {N : Type 0} → CommitFault N → Type 0
+IsMemoryFault (phases.Sequencing refusal batch) = refusal ≡ refusals.OutOfMemory
+IsMemoryFault (phases.Beginning refusal ticket) = refusal ≡ locked.OutOfMemory
+IsMemoryFault (phases.Resolving refusal begun) = refusal ≡ locked.OutOfMemory
+IsMemoryFault (phases.Finishing refusal ready) = refusal ≡ locked.OutOfMemory
+
+-- two faults are one of memory if either is
+pub record GraverIsOutOfMemory : Type 0 where
+  pub first : graver faults.OutOfMemory faults.Refused ≡ faults.OutOfMemory
+  pub second : graver faults.Refused faults.OutOfMemory ≡ faults.OutOfMemory
+  pub neither : graver faults.Refused faults.Refused ≡ faults.Refused
+
+-- the fault of a run is one of memory if a worker was refused memory or a proxy failed so
+pub record WorkersWithoutMemory : Type 0 where
+  pub a_worker : fault_with_workers faults.Refused true ≡ faults.OutOfMemory
+  pub a_proxy : fault_with_workers faults.OutOfMemory false ≡ faults.OutOfMemory
+  pub neither : fault_with_workers faults.Refused false ≡ faults.Refused

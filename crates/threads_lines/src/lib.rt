@@ -22,7 +22,7 @@ pub use checks::{check_answered, check_moves, check_proxies, check_resolvers};
 pub use cluster::RunCluster;
 pub use committer::{AnsweredLines, Committer};
 pub use faults::{RunFault, status_of};
-pub use laws::{audit_line_law, no_record_follows_law};
+pub use laws::{audit_line_law, faults_edges, no_record_follows_law, status_of_fault_law};
 pub use meetings::{print_audits, print_meetings};
 pub use proxy_threads::{CommitsBatches, EndsProxies};
 pub use run_history::{RunHistory, count_records_of};
