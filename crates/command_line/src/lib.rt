@@ -16,7 +16,7 @@ pub use choosing::{Rejection, choose_mode};
 pub use fold_run::run_fold;
 pub use known_lines::known_lines_scenarios;
 pub use mode::Mode;
-pub use run::run_words;
+pub use run::{Leftover, run_words, run_words_leaving};
 pub use scripts::{Failed, Reader, RunStatus, ScriptFault, Sink, Source, Writer, read_batch};
 pub use status::Status;
 pub use threads_run::{run_threads, status_of};

@@ -16,5 +16,6 @@ mod shapes;
 mod text;
 
 pub use reading::{read_fold, stream_fold};
-pub use run::run_fold;
+pub use run::{run_fold, run_fold_leaving};
 pub use script::FoldScript;
+pub use text::FoldLeftover;

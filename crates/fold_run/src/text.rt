@@ -15,7 +15,7 @@ use model::{JournalRow, RESOLVERS_LIMIT, is_from_one_to};
 use script_tokens::Tokens;
 use scripts::{MadeOfTokens, take_object};
 use std::alloc::Global;
-use system_keys::{Bytes, OutOfMemory};
+use system_keys::{Bytes, Items, OutOfMemory};
 
 /// Prints the text of a fold script (this project's profile): the routing of its folded rows and
 /// the tags of its asked keys. Fails only with `OutOfMemory`.
@@ -44,11 +44,20 @@ fn last_version(rows: &[JournalRow]) -> u64
     }
 }
 
+/// What is made to print a fold script while its tokens are read.
+#[derive(Drop)]
+pub struct FoldLeftover {
+    metadata: Metadata,
+    ask: Items<Bytes>,
+}
+
 /// The text of a fold script, which is folded while its tokens are read.
 #[derive(Drop)]
 pub(crate) struct FoldText {
     /// The routing of its folded rows, and the tags of its asked keys.
     pub(crate) text: String,
+    /// What was made to print it.
+    pub(crate) leftover: FoldLeftover,
 }
 
 impl MadeOfTokens for FoldText {
@@ -61,15 +70,14 @@ impl MadeOfTokens for FoldText {
         if folded.resolvers != resolvers || !is_from_one_to(RESOLVERS_LIMIT, resolvers) {
             return None;
         }
-        let text = text_of_folded(alloc, folded, ask.as_slice())?;
-        Some(FoldText { text })
+        text_of_folded(alloc, folded, ask)
     }
 }
 
 /// The whole text, where the rows are folded.
-fn text_of_folded(alloc: Global, folded: FoldedRows, ask: &[Bytes]) -> Option<String>
-    ensures { IfSome result (λ text. string_bytes text
-        ≡ metadata_text folded.version folded.journal ask.now) }
+fn text_of_folded(alloc: Global, folded: FoldedRows, ask: Items<Bytes>) -> Option<FoldText>
+    ensures { IfSome result (λ made. string_bytes made.text
+        ≡ metadata_text folded.version folded.journal ask) }
 {
     let FoldedRows {
         version,
@@ -78,8 +86,11 @@ fn text_of_folded(alloc: Global, folded: FoldedRows, ask: &[Bytes]) -> Option<St
     } = folded;
     let metadata = journal.into_metadata().ok()?;
     let mut text = String::new(alloc);
-    match print_metadata(alloc, &mut text, version, &metadata, ask) {
-        Ok(()) => Some(text),
+    match print_metadata(alloc, &mut text, version, &metadata, ask.as_slice()) {
+        Ok(()) => Some(FoldText {
+            text,
+            leftover: FoldLeftover { metadata, ask },
+        }),
         Err(_) => None,
     }
 }

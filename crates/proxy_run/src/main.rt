@@ -6,21 +6,31 @@ ghost use Rattle.std.specs.Prelude.{◌≡◌, codes};
 ghost use Rattle.scripts.specs.Lines.{line};
 ghost use Rattle.command_line.specs.Statuses.{IsRejectedWith};
 
-use command_line::{Reader, RunStatus, Status, Writer, run_words};
+use command_line::{Leftover, Reader, RunStatus, Status, Writer, run_words_leaving};
 use std::alloc::Global;
 use std::env;
 use std::io::ErrorKind;
+use std::mem::ManuallyDrop;
 use std::process::ExitCode;
 
 fn main(rt: HostRuntime) -> ExitCode {
+    let mut leftover = Leftover::none();
     let status = match words(&rt) {
         Ok(words) => {
             let mut reader = Reader::new(rt.stdin());
             let mut writer = Writer::new(rt.stdout());
-            run_words(&rt, words.as_slice(), &mut reader, &mut writer)
+            run_words_leaving(
+                &rt,
+                words.as_slice(),
+                &mut reader,
+                &mut writer,
+                &mut leftover,
+            )
         }
         Err(status) => status,
     };
+    // The process ends now: to drop the rest would only take time.
+    let _leftover = ManuallyDrop::new(leftover);
     if let Status::CommandLineRefused(text) = &status {
         let _ = rt.eprint(text);
     }

@@ -21,5 +21,6 @@ mod turns_fields;
 pub use event_lines::{carry_out, print_refusal};
 pub use proxies::print_proxy;
 pub use reading::{read_turns, stream_turns};
-pub use run::run_turns;
+pub use run::{run_turns, run_turns_leaving};
 pub use script::{RawEvent, TurnsScript};
+pub use text::TurnsLeftover;

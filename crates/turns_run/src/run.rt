@@ -5,8 +5,10 @@ ghost use Rattle.turns_run.specs.Scripts.{script_of};
 ghost use Rattle.turns_run.specs.Text.{TakesTurns, printed_text, turns_text};
 
 use crate::script::{RawTurns, TurnsScript};
-use crate::text::{TurnsText, print_turns};
-use scripts::{RunStatus, ScriptKind, Sink, Source, make_of_tokens, run_script};
+use crate::text::{TurnsLeftover, TurnsText, print_turns};
+use scripts::{
+    Printed, RunStatus, ScriptKind, Sink, Source, make_of_tokens, run_script, run_script_leaving,
+};
 use std::alloc::Global;
 use system_keys::OutOfMemory;
 
@@ -18,13 +20,18 @@ impl ScriptKind for TurnsKind {
 
     type Script = TurnsScript;
 
+    type Leftover = TurnsLeftover;
+
     ghost printed = { printed_text };
 
     ghost output_to = { turns_text };
 
-    fn stream(alloc: Global, bytes: &[u8]) -> Option<String> {
+    fn stream(alloc: Global, bytes: &[u8]) -> Option<Printed<TurnsLeftover>> {
         let made: TurnsText = make_of_tokens(alloc, bytes)?;
-        Some(made.text)
+        Some(Printed {
+            text: made.text,
+            leftover: made.leftover,
+        })
     }
 
     fn print(alloc: Global, text: &mut String, script: TurnsScript) -> Result<(), OutOfMemory> {
@@ -45,4 +52,22 @@ pub fn run_turns<S: Source, T: Sink>(alloc: Global, source: &mut S, sink: &mut T
         T.Sink sink.old sink.new result }
 {
     run_script::<TurnsKind, S, T>(alloc, source, sink)
+}
+
+/// Runs a turns script as `run_turns` does, and drops nothing that was made to print it: that goes into
+/// `leftover`. A program that ends then need not drop it.
+pub fn run_turns_leaving<S: Source, T: Sink>(
+    alloc: Global,
+    source: &mut S,
+    sink: &mut T,
+    leftover: &mut Option<TurnsLeftover>,
+) -> RunStatus
+    requires read_count { S.failed source.old < 2 ^ 64 - 1 }
+    requires write_count { T.failed sink.old < 2 ^ 64 - 1 }
+    ensures turns { TakesTurns (S.remaining source.old) (T.written sink.old) (T.written sink.new)
+        result }
+    ensures devices { LeavesDevices turns_text S.Source source.old source.new
+        T.Sink sink.old sink.new result }
+{
+    run_script_leaving::<TurnsKind, S, T>(alloc, source, sink, leftover)
 }

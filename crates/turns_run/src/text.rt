@@ -13,7 +13,7 @@ use model::Config;
 use script_tokens::Tokens;
 use scripts::{MadeOfTokens, take_object};
 use std::alloc::Global;
-use system_keys::{Bytes, OutOfMemory};
+use system_keys::{Bytes, Items, OutOfMemory};
 use turn_world::TurnWorld;
 
 /// Prints the text of a turns script (this project's profile): the lines of its events, carried
@@ -31,11 +31,20 @@ pub(crate) fn print_turns(
     print_proxies(alloc, text, &script.config, &world, script.ask.as_slice())
 }
 
+/// What is made to print a turns script while its tokens are read.
+#[derive(Drop)]
+pub struct TurnsLeftover {
+    world: TurnWorld,
+    ask: Items<Bytes>,
+}
+
 /// The text of a turns script, printed while its tokens are read.
 #[derive(Drop)]
 pub(crate) struct TurnsText {
     /// The lines of its events, and then those of its proxies.
     pub(crate) text: String,
+    /// What was made to print it.
+    pub(crate) leftover: TurnsLeftover,
 }
 
 impl MadeOfTokens for TurnsText {
@@ -46,8 +55,7 @@ impl MadeOfTokens for TurnsText {
         let fields: TurnsFields<CarriedOut> = take_object(alloc, reader, depth)?;
         let config = fields.config()?;
         let (carried_out, ask) = (fields.events?, fields.ask?);
-        let text = end_turns_text(alloc, &config, carried_out, ask.as_slice())?;
-        Some(TurnsText { text })
+        end_turns_text(alloc, &config, carried_out, ask)
     }
 }
 
@@ -56,18 +64,21 @@ fn end_turns_text(
     alloc: Global,
     config: &Config,
     carried_out: CarriedOut,
-    ask: &[Bytes],
-) -> Option<String>
-    ensures { IfSome result (λ text. (carried_out.world.config ≡ config.now)
-        × (string_bytes text ≡ string_bytes carried_out.text
-        ++ proxies_text config.now carried_out.world.world ask.now)) }
+    ask: Items<Bytes>,
+) -> Option<TurnsText>
+    ensures { IfSome result (λ made. (carried_out.world.config ≡ config.now)
+        × (string_bytes made.text ≡ string_bytes carried_out.text
+        ++ proxies_text config.now carried_out.world.world ask)) }
 {
     let CarriedOut { mut text, world } = carried_out;
     if *world.config() != *config {
         return None;
     }
-    match print_proxies(alloc, &mut text, config, &world, ask) {
-        Ok(()) => Some(text),
+    match print_proxies(alloc, &mut text, config, &world, ask.as_slice()) {
+        Ok(()) => Some(TurnsText {
+            text,
+            leftover: TurnsLeftover { world, ask },
+        }),
         Err(_) => None,
     }
 }

@@ -1,6 +1,7 @@
 use Rattle.std.proofs.Common.{arith, List}
 use Rattle.std.specs.Prelude.{string_bytes}
 use Rattle.serde_json.specs.Data.{object}
+use Rattle.scripts.proofs.StreamObjectLemmas.{if_some_weaker}
 use Rattle.fold_run.specs.Folding.{AreFolded}
 use Rattle.fold_run.specs.declared.folded_rows.FoldedRows.{FoldedRows}
 use Rattle.fold_run.specs.declared.script.RawRow.{RawRow}
@@ -16,4 +17,8 @@ returns c =
     let ask = c.in_ok-ask.ask in
     let is_from = λ (folded : FoldedRows) (raws : List RawRow). AreFolded raws folded in
     let script = fields_of_script is_from c.in_ok-fields.fields read.0 resolvers folded ask read.2 (grind arith) (grind arith) (grind arith) in
-    (object read.0, read.1, text_of_script (object read.0) resolvers script.0 ask folded (string_bytes c.in_ok-text.text) script.2 script.1 (grind arith) (grind arith) (rw c.as_slice.ensures at c.in_ok-text.ensures))
+    if_some_weaker c.text_of_folded.result (λ made printed. (
+      object read.0,
+      read.1,
+      text_of_script (object read.0) resolvers script.0 ask folded (string_bytes made.text) script.2 script.1 (grind arith) (grind arith) printed,
+    )) c.text_of_folded.ensures

@@ -1,6 +1,7 @@
 use Rattle.std.proofs.Common.{arith, List}
 use Rattle.std.specs.Prelude.{string_bytes}
 use Rattle.serde_json.specs.Data.{object}
+use Rattle.scripts.proofs.StreamObjectLemmas.{if_some_weaker}
 use Rattle.turns_run.specs.CarryingOut.{AreCarriedOut}
 use Rattle.turns_run.specs.declared.carried_out.CarriedOut.{CarriedOut}
 use Rattle.turns_run.specs.declared.script.RawEvent.{RawEvent}
@@ -15,5 +16,8 @@ returns c =
     let numbers = c.in_ok-config.ensures in
     let is_from = λ (carried_out : CarriedOut) (raws : List RawEvent). AreCarriedOut raws (string_bytes carried_out.text) carried_out.world in
     let script = script_of_fields is_from c.in_ok-fields.fields read.0 config c.in_ok-carried_out.carried_out c.in_ok-ask.ask read.2 numbers.0 numbers.1 numbers.2 numbers.3 numbers.4 (grind arith) (grind arith) in
-    let ended = c.in_ok-text.ensures in
-    (object read.0, read.1, text_of_script (object read.0) config script.0 c.in_ok-ask.ask _ (string_bytes c.in_ok-text.text) _ script.2 script.1 ended.0 (rw c.as_slice.ensures at ended.1))
+    if_some_weaker c.end_turns_text.result (λ made ended. (
+      object read.0,
+      read.1,
+      text_of_script (object read.0) config script.0 c.in_ok-ask.ask _ (string_bytes made.text) _ script.2 script.1 ended.0 ended.1,
+    )) c.end_turns_text.ensures

@@ -10,7 +10,7 @@ use Rattle.command_line.specs.declared.choosing.Rejection.TheVariants.{Words}
 use Rattle.command_line.specs.declared.mode.Mode.{Mode}
 use Rattle.command_line.specs.declared.mode.Mode.TheVariants.{Fold, Turns, Threads}
 use Rattle.command_line.proofs.KnownRuns.{runs_by_words}
-use Rattle.command_line.proofs.run.run_words.Goals as goal
+use Rattle.command_line.proofs.run.run_words_leaving.Goals as goal
 
 -- the mode that was given ran
 runs_given : (given : Option Mode) (mode : Mode) (runs : Mode → Type 0) → given ≡ Some mode → runs mode → RunsMode given runs
@@ -33,7 +33,7 @@ returns-in-Ok-Fold-clause-run g c =
       names = chosen.names;
       refused = λ some. let bad = chosen.refused some in cc;
       taken = λ none. inr (runs_given _ Fold _ (chosen.taken none ∙ ap (λ mode. Some mode) c.in-Ok-Fold.field-0-is)
-          (record { text = c.run_fold.ensures.fold; devices = c.run_fold.ensures.devices }));
+          (record { text = c.run_fold_leaving.ensures.fold; devices = c.run_fold_leaving.ensures.devices }));
     })
 
 pub returns-in-Ok-Turns-clause-run : goal.returns-in-Ok-Turns-clause-run
@@ -44,7 +44,7 @@ returns-in-Ok-Turns-clause-run g c =
       names = chosen.names;
       refused = λ some. let bad = chosen.refused some in cc;
       taken = λ none. inr (runs_given _ Turns _ (chosen.taken none ∙ ap (λ mode. Some mode) c.in-Ok-Turns.field-0-is)
-          (record { text = c.run_turns.ensures.turns; devices = c.run_turns.ensures.devices }));
+          (record { text = c.run_turns_leaving.ensures.turns; devices = c.run_turns_leaving.ensures.devices }));
     })
 
 pub returns-in-Ok-Threads-clause-run : goal.returns-in-Ok-Threads-clause-run
@@ -78,10 +78,10 @@ returns-in-Err-OutOfMemory-clause-run g c =
     })
 
 pub returns-in-Ok-Fold-clause-devices : goal.returns-in-Ok-Fold-clause-devices
-returns-in-Ok-Fold-clause-devices g c = (Fold, c.run_fold.ensures.devices)
+returns-in-Ok-Fold-clause-devices g c = (Fold, c.run_fold_leaving.ensures.devices)
 
 pub returns-in-Ok-Turns-clause-devices : goal.returns-in-Ok-Turns-clause-devices
-returns-in-Ok-Turns-clause-devices g c = (Turns, c.run_turns.ensures.devices)
+returns-in-Ok-Turns-clause-devices g c = (Turns, c.run_turns_leaving.ensures.devices)
 
 pub returns-in-Ok-Threads-clause-devices : goal.returns-in-Ok-Threads-clause-devices
 returns-in-Ok-Threads-clause-devices g c = (Threads, (c.run_threads.ensures.answer, c.run_threads.ensures.devices))
