@@ -1,6 +1,6 @@
 -- What the end of a ledger, the line of an audit and the fault of a run say.
 use Rattle.std.proofs.Common.{◌≡◌, ◌∙◌, ◌++◌, ℕ, List, [], ◌∷◌, codes, ap, refl, subst, sym, append_assoc, arith}
-use Rattle.std.specs.Prelude.{⊤, ⊥, Result, Ok, Err, MatchResult}
+use Rattle.std.specs.Prelude.{⊤, Result, Ok, Err, MatchResult}
 use Rattle.std.specs.Fmt.{decimal}
 use Rattle.std.proofs.lemmas.List.{append_cancel_left}
 use Rattle.std.proofs.lemmas.Option.{same_Some}

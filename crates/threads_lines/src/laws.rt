@@ -1,7 +1,7 @@
 //! Laws of when no record can follow, of the line of an audit, and of how a run ends that fails. No
 //! code: each contract states something of definitions.
 
-ghost use Rattle.std.specs.Prelude.{◌≡◌, ⊥};
+ghost use Rattle.std.specs.Prelude.{◌≡◌};
 ghost use Rattle.locked_cluster.specs.declared.commits.commit_fault.CommitFault.{CommitFault};
 ghost use Rattle.scripts.specs.declared.status.RunStatus.TheVariants as statuses;
 ghost use Rattle.threads_lines.specs.Faults.{status_of};
