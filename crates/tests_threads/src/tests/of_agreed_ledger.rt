@@ -320,8 +320,26 @@ fn a_ledger_has_1_to_4096_rows(rt: HostRuntime) -> Result<(), Fail> {
     let config = Config::new(2, 2, 100, 10)?;
     assert!(&rt; refusal_of_rows(rt.alloc(), 0, config) == Some(Refusal::BadConfig));
     assert!(&rt; refusal_of_rows(rt.alloc(), 4_097, config) == Some(Refusal::BadConfig));
-    assert!(&rt; Refusal::LedgerFull { rows: 1 }.number() == Some(50));
-    assert!(&rt; Refusal::CellTaken.number() == Some(52));
-    assert!(&rt; Refusal::CellTaken.name() == "CellTaken");
     Ok(())
+}
+
+/// Each refusal with the number and the name that are printed.
+const PRINTED: &[(Refusal, Option<u32>, &str)] = &[
+    (Refusal::BadConfig, Some(17), "BadConfig"),
+    (Refusal::NoSuchResolver, Some(20), "NoSuchResolver"),
+    (Refusal::NoSuchProxy, Some(32), "NoSuchProxy"),
+    (Refusal::LedgerFull { rows: 1 }, Some(50), "LedgerFull"),
+    (Refusal::VersionsEnd, Some(51), "VersionsEnd"),
+    (Refusal::CellTaken, Some(52), "CellTaken"),
+    (Refusal::OutOfMemory, None, "OutOfMemory"),
+];
+
+#[test]
+fn refusals_have_their_numbers_and_names(rt: HostRuntime) {
+    for (refusal, number, name) in PRINTED {
+        assert!(rt;
+            refusal.number() == *number && refusal.name() == *name,
+            "{name}"
+        );
+    }
 }
