@@ -2,13 +2,13 @@
 
 use crate::tests::phases::Phase;
 use agreed_ledger::Naming;
-use locked_cluster::{Refusal, Request, SharedResolver};
+use locked_cluster::{Refusal, Refused, Request, SharedResolver};
 use model::{Reply, Verdict};
 use std::sync::Wait;
 use testing::twice;
 
 /// A copy of the request for the record of a row, which is begun, to a resolver.
-fn request<N: Naming>(
+pub(crate) fn request<N: Naming>(
     rows: &[Phase<N>],
     row: usize,
     resolver: usize,
@@ -86,4 +86,28 @@ pub(crate) fn answer<N: Naming, R: AllocGlobal + Wait>(
         answer_once(rt, resolver, waits, rows, row),
         Refusal::OutOfMemory
     )
+}
+
+/// Why a request is refused, and the resolver and the version of the request that comes back.
+pub(crate) type Returned = (Refusal, usize, u64);
+
+fn returned<N: Naming>(refused: &Refused<N>) -> Returned {
+    let request = &refused.request;
+    (refused.refusal, request.resolver(), request.version())
+}
+
+/// What comes back of a request that waits its turn or does not, if it is refused.
+pub(crate) fn return_of<N: Naming, R: Wait>(
+    rt: &R,
+    resolver: &SharedResolver<'_, N>,
+    waits: bool,
+    request: Request<N>,
+) -> Option<Returned> {
+    if waits {
+        let refused = resolver.resolve(rt, request).err()?;
+        Some(returned(&refused))
+    } else {
+        let refused = resolver.lock(rt).offer(request).err()?;
+        Some(returned(&refused))
+    }
 }

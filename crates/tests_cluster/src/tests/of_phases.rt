@@ -10,15 +10,18 @@ use std::process::Abort;
 use std::sync::Wait;
 use std::test::Fail;
 
-/// Two records of proxy 0, and one of proxy 1, all of empty batches.
-const LINES: &[Line<'static>] = &[(0, &[]), (0, &[]), (1, &[])];
+/// Three records of proxy 0, the last of which is not begun, and one of proxy 1, all of empty batches.
+const LINES: &[Line<'static>] = &[(0, &[]), (0, &[]), (1, &[]), (0, &[])];
 
-/// The tickets are begun out of order and by another proxy first, and so are the replies finished.
+/// The tickets are begun out of order and by another proxy first, and so are the replies finished. A ticket
+/// of another proxy that does not follow either is refused as that of another proxy.
 const STORY: &[Step] = &[
+    (1, 1, Some(Refusal::NotMine)),
     (1, 0, Some(Refusal::OutOfOrder { expected: 0 })),
     (2, 0, Some(Refusal::NotMine)),
     (0, 1, Some(Refusal::NotMine)),
     (0, 0, None),
+    (3, 0, Some(Refusal::OutOfOrder { expected: 10 })),
     (1, 0, None),
     (2, 1, None),
     (0, 0, None),

@@ -130,3 +130,37 @@ fn other_resolvers_ends_and_other_proxies_requests_are_refused(
         &Story::OfInboxes(InboxStory::Misplaced),
     )
 }
+
+// ---- numbers and names
+
+/// Each refusal of what is behind a lock, with the number and the name that are printed.
+const PRINTED: &[(Refusal, Option<u32>, &str)] = &[
+    (Refusal::Early { version: 7 }, Some(30), "Early"),
+    (Refusal::GivenUp { acknowledged: 7 }, Some(31), "GivenUp"),
+    (Refusal::NoSuchProxy, Some(32), "NoSuchProxy"),
+    (Refusal::WrongResolver, Some(33), "WrongResolver"),
+    (
+        Refusal::OutsideChain { version: 7 },
+        Some(34),
+        "OutsideChain",
+    ),
+    (Refusal::NotMine, Some(40), "NotMine"),
+    (Refusal::OutOfOrder { expected: 7 }, Some(41), "OutOfOrder"),
+    (Refusal::OutOfTurn { expected: None }, Some(42), "OutOfTurn"),
+    (Refusal::NotReached { version: 7 }, Some(45), "NotReached"),
+    (Refusal::CellTaken, Some(52), "CellTaken"),
+    (Refusal::Closed, Some(60), "Closed"),
+    (Refusal::OutOfMemory, None, "OutOfMemory"),
+];
+
+#[test]
+fn refusals_have_their_numbers_and_names(rt: HostRuntime) {
+    for (refusal, number, name) in PRINTED {
+        assert!(rt;
+            refusal.number() == *number && refusal.name() == *name,
+            "{name}"
+        );
+    }
+    let not_sender = inboxes::Refusal::NotSender;
+    assert!(rt; not_sender.number() == 61 && not_sender.name() == "NotSender");
+}

@@ -1,6 +1,6 @@
 //! Tests of resolvers behind locks.
 
-use crate::tests::answers::{Answer, answer};
+use crate::tests::answers::{Answer, Returned, answer, request, return_of};
 use crate::tests::phases::{Phase, Step};
 use crate::tests::starting::{Cluster, Line, blank, resolver, rows_after};
 use crate::tests::stories::{Story, tell};
@@ -11,7 +11,7 @@ use std::alloc::Global;
 use std::process::Abort;
 use std::sync::Wait;
 use std::test::Fail;
-use testing::{EMPTY_TRANSACTION, TransactionLine};
+use testing::{EMPTY_TRANSACTION, TransactionLine, twice};
 
 /// A batch that writes at `k`.
 const WRITE: &[TransactionLine<'static>] = &[TransactionLine {
@@ -143,5 +143,42 @@ fn a_second_resolver_of_a_number_is_refused_the_cell(rt: HostRuntime) -> Result<
         blank(alloc, 2, 3, 1)?,
         &[0, 0],
         &Story::Asked(BY_TWO),
+    )
+}
+
+// ---- requests to another resolver
+
+const BOTH_WAYS: &[bool] = &[WAITS, OFFERED];
+
+/// The request to resolver 1 for the record at version 20 comes back.
+const BACK: Returned = (Refusal::WrongResolver, 1, 20);
+
+/// Resolver 0, which has judged nothing, gets the request to resolver 1 for the second record. It is answered at
+/// once, though the resolver has not come as far, and leaves the resolver open.
+pub(crate) fn bring_to_another<N: Naming, R: Abort + AllocGlobal + Wait>(
+    rt: &R,
+    alloc: Global,
+    cluster: &Cluster<'_, N>,
+) -> Result<(), Fail> {
+    let rows = rows_after(rt, alloc, cluster, LINES, BEGIN)?;
+    let resolver = cluster.resolvers().first().ok_or("no resolver")?;
+    for waits in BOTH_WAYS {
+        let copy = twice!(alloc; request(rows.as_slice(), 1, 1), Refusal::OutOfMemory)?;
+        assert!(rt; return_of(rt, resolver, *waits, copy) == Some(BACK));
+    }
+    let left = resolver.lock(rt);
+    assert!(rt; !left.is_closed() && left.version() == 0);
+    Ok(())
+}
+
+#[test]
+fn a_request_to_another_resolver_is_refused_at_once(rt: HostRuntime) -> Result<(), Fail> {
+    let alloc = rt.alloc();
+    tell(
+        &rt,
+        alloc,
+        blank(alloc, 2, 3, 2)?,
+        &[0, 1],
+        &Story::BroughtToAnother,
     )
 }

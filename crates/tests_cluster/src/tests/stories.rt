@@ -11,7 +11,7 @@ use crate::tests::of_meetings::meet_twice;
 use crate::tests::of_phases::go_in_odd_order;
 use crate::tests::of_refusals::misplace_ends;
 use crate::tests::of_repeats::repeat;
-use crate::tests::of_resolvers::{Ask, are_numbered, ask_by_hand};
+use crate::tests::of_resolvers::{Ask, are_numbered, ask_by_hand, bring_to_another};
 use crate::tests::of_threads::{close_on_waiting, commit_and_close};
 use crate::tests::of_workers::{Trial, try_out};
 use crate::tests::starting::{Cluster, Inboxes};
@@ -38,6 +38,8 @@ pub(crate) enum Story {
     Numbers,
     /// Requests are brought by hand.
     Asked(&'static [Ask]),
+    /// A request is brought to another resolver.
+    BroughtToAnother,
     /// A resolver is closed while a thread waits.
     ClosedOnWaiting,
     /// Three threads commit, and then each proxy closes, the last one with this answer.
@@ -105,6 +107,7 @@ fn tell_of<N: Naming + Send + Sync, R: Abort + AllocGlobal + Threads + Wait + Sy
             Ok(())
         }
         Story::Asked(asks) => ask_by_hand(rt, alloc, cluster, *asks),
+        Story::BroughtToAnother => bring_to_another(rt, alloc, cluster),
         Story::ClosedOnWaiting => close_on_waiting(rt, alloc, cluster),
         Story::ByThree(last) => commit_and_close(rt, alloc, cluster, *last),
         Story::OfInboxes(story) => tell_with_inboxes(rt, alloc, cluster, story),
