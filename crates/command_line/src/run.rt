@@ -51,8 +51,8 @@ pub fn run_words<'a, W: AsStr, R: AllocGlobal + Threads + Wait + Sync, S: Source
     run_words_leaving(rt, words, source, sink, &mut leftover)
 }
 
-/// Runs by words as `run_words` does, and drops nothing that a run of `fold` or `turns` made to print its
-/// script: that goes into `leftover`. A program that ends then need not drop it.
+/// Runs by words as `run_words` does, but keeps in `leftover` what a run of `fold` or `turns` made while it
+/// read the tokens of its script. A program that ends then need not drop it.
 pub fn run_words_leaving<'a, W: AsStr, R: AllocGlobal + Threads + Wait + Sync, S: Source, T: Sink>(
     rt: &R,
     words: &'a [W],
