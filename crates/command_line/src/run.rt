@@ -16,8 +16,10 @@ use turns_run::{TurnsLeftover, run_turns_leaving};
 /// What was made to print a script, and is needed no more.
 #[derive(Drop)]
 pub struct Leftover {
-    fold: Option<FoldLeftover>,
-    turns: Option<TurnsLeftover>,
+    /// What a run of `fold` made.
+    pub fold: Option<FoldLeftover>,
+    /// What a run of `turns` made.
+    pub turns: Option<TurnsLeftover>,
 }
 
 impl Leftover {
