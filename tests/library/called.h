@@ -14,17 +14,29 @@ typedef struct { uint8_t *bytes; size_t length; } text;
 
 /* which allocation fails, which freed block is kept, and how many there were since the last `begin` */
 static long fail_at = NEVER, keep_at = NEVER, asked, freed;
-static int in_call;
+/* whether the library runs (volatile, since a compiler takes it that malloc does not read it), and how many blocks it has */
+static volatile int in_call;
+static long held;
 
 void *__real_malloc(size_t), *__real_realloc(void *, size_t);
 void __real_free(void *);
 
-void *__wrap_malloc(size_t size) { return in_call && asked++ == fail_at ? NULL : __real_malloc(size); }
+/* the block that an allocation gave, in place of none or of an older one */
+static void *counted(void *given, const void *older) {
+    held += in_call && given && !older;
+    return given;
+}
+
+void *__wrap_malloc(size_t size) {
+    return in_call && asked++ == fail_at ? NULL : counted(__real_malloc(size), NULL);
+}
 void *__wrap_realloc(void *block, size_t size) {
-    return in_call && asked++ == fail_at ? NULL : __real_realloc(block, size);
+    return in_call && asked++ == fail_at ? NULL : counted(__real_realloc(block, size), block);
 }
 void __wrap_free(void *block) {
-    if (!(in_call && block && freed++ == keep_at)) __real_free(block);
+    if (in_call && block && freed++ == keep_at) return;
+    held -= in_call && block;
+    __real_free(block);
 }
 
 static void begin(void) { asked = freed = 0; }
