@@ -6,6 +6,7 @@ usage: GAKYHERA_LIBRARY=FILE python3 tests/library/python_calls.py SEEDS
 import itertools
 import json
 import os
+import random
 import sys
 import tempfile
 import threading
@@ -20,7 +21,7 @@ import gakyhera
 from tests.library.cases import answers_of, examples, sessions
 from tests.scripts.fold import reference as fold_reference
 from tests.scripts.turns import reference as turns_reference
-from tests.sessions.trials import CLUSTER, SHOW, lines_of
+from tests.sessions.trials import CLUSTER, SHOW, lines_of, lines_with_fault
 from tools.random_scripts import CYCLES, drawn
 
 SECOND = {"fold": fold_reference.answer, "turns": turns_reference.answer}
@@ -150,8 +151,9 @@ def tried_lines(seeds):
         script, _ = drawn("turns", cycle[seed % len(cycle)], "session %d" % seed)
         try:
             lines = lines_of(json.loads(script))
-        except (ValueError, KeyError, TypeError, AttributeError):
+        except (ValueError, KeyError, TypeError, AttributeError, RecursionError):
             continue
+        lines += lines_with_fault(random.Random(seed), lines)
         for line, right in zip(lines, answers_of(lines)):
             given = session.line(line)
             if given != right:

@@ -11,7 +11,7 @@ import tempfile
 import time
 
 from tests.sessions.reference import Session, answers
-from tools.random_scripts import KINDS, drawn
+from tools.random_scripts import KINDS, drawn, json_faults
 
 BINDING = os.path.join(os.path.dirname(os.path.abspath(__file__)), "..", "..", "bindings", "python")
 
@@ -178,21 +178,42 @@ def python_binding(program, lines):
             expect("the binding, %r" % line[:80], session.line(line), right.answer(line))
 
 
+# lines that are none of a script, between those of scripts
+OTHERS = [
+    b"", b" ", b"{", b"[]", b"null", b"\xff", b'{"show":{"proxy":9,"ask":[]}}', SHOW, b'{"show":{"proxy":0}}',
+    b'{"cluster":{"proxies":65,"resolvers":1,"window":1,"step":1}}', b'{"cluster":7}', b'{"event":1}', b"[" * 200,
+    b'{"show":{"ask":[],"proxy":0}}', b'{"finish":{"proxy":0},"finish":{"proxy":1}}', CLUSTER + b"\r", b"1e999",
+]
+
+
+def lines_with_fault(chance, lines):
+    """One of these lines with a fault of its JSON; two or more where the fault has a line feed."""
+    line = chance.choice([it for it in lines if it.startswith(b'{"')])
+    return json_faults.plant(chance, line.decode()).script.split(b"\n")
+
+
+def random_lines(chance, seed):
+    """The lines of two random turns scripts, one after the other, with faults and other lines among them."""
+    lines = [chance.choice(OTHERS), SEQUENCE]
+    for kind in chance.sample(sorted(KINDS["turns"]), 2):
+        script, _ = drawn("turns", kind, seed, chance.choice([5, 20, 60]))
+        try:
+            own = lines_of(json.loads(script))
+        except (ValueError, KeyError, TypeError, AttributeError, RecursionError):
+            lines.append(script.replace(b"\n", b" "))
+            own = [CLUSTER]
+        lines += own
+        lines.insert(chance.randrange(len(lines)), chance.choice(OTHERS))
+        place = chance.randrange(len(lines))
+        lines[place:place] = lines_with_fault(chance, own)
+    return lines
+
+
 def random_scripts(program, count, seed):
     """Random turns scripts of each kind, one after another in one session, with faults and other lines among them."""
     chance = random.Random(seed)
-    others = [b"", b" ", b"{", b"[]", b"null", b"\xff", b'{"show":{"proxy":9,"ask":[]}}', SHOW, b'{"show":{"proxy":0}}',
-              b'{"cluster":{"proxies":65,"resolvers":1,"window":1,"step":1}}', b'{"cluster":7}', b'{"event":1}', b"[" * 200,
-              b'{"show":{"ask":[],"proxy":0}}', b'{"finish":{"proxy":0},"finish":{"proxy":1}}', CLUSTER + b"\r", b"1e999"]
     for number in range(count):
-        lines = [chance.choice(others), SEQUENCE]
-        for kind in chance.sample(sorted(KINDS["turns"]), 2):
-            script, _ = drawn("turns", kind, "%s %d" % (seed, number), chance.choice([5, 20, 60]))
-            try:
-                lines += lines_of(json.loads(script))
-            except (ValueError, KeyError, TypeError, AttributeError):
-                lines.append(script.replace(b"\n", b" "))
-            lines.insert(chance.randrange(len(lines)), chance.choice(others))
+        lines = random_lines(chance, "%s %d" % (seed, number))
         if number % 10 == 0:
             in_turn(program, lines, "script %d" % number)
         expect("script %d" % number, program.run(b"\n".join(lines) + chance.choice([b"", b"\n"])), (0, answers(lines)))

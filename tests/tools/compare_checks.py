@@ -18,7 +18,7 @@ from tools.comparing import cases
 HERE = os.path.dirname(os.path.abspath(__file__))
 COMPARE, SHRINK = (os.path.join(ROOT, "tools", it) for it in ("compare", "shrink"))
 RANDOM_SCRIPT, SECOND = (os.path.join(ROOT, "tools", it) for it in ("random_script", "second_program"))
-WRONG = os.path.join(HERE, "wrong_program")
+WRONG, SOAK = os.path.join(HERE, "wrong_program"), os.path.join(ROOT, "tests", "scripts", "soak")
 TURNS = os.path.join(ROOT, "examples", "turns")
 # how many seconds a run of a tool may take on a machine that is busy, and how many a run of an implementation that does not
 # hang
@@ -95,6 +95,16 @@ def wrong_implementation_is_told(folder):
         "their text",
     )
     want(read(folder, name, "explanation.txt").decode().splitlines()[0] in lines, "the explanation is another one")
+
+
+def reader_that_is_not_strict_is_told(folder):
+    """A program that reads what Python's json does, and is right else, answers 71 where 70 is right."""
+    words = ["--modes", "fold", "--random", "300", "--seed", "1", "--keep-going", "3", "--shrink-seconds", "0", "--json"]
+    status, lines, _ = compared(folder, *words, fault="json.loads")
+    found = [json.loads(line) for line in lines]
+    want(status == 1 and len(found) == 3, "status %d, %d objects" % (status, len(found)))
+    for one in found:
+        want(one["right"] == "refused 70 NotJson\n" != one["theirs"], "the texts %s and %s" % (one["right"], one["theirs"]))
 
 
 def same_seed_does_the_same(folder):
@@ -263,6 +273,31 @@ def random_script_is_the_same_again(_folder):
         want(status == 2 and not lines and said, "%s: status %d" % (words, status))
 
 
+def program_of(folder, name, line):
+    """A program that runs one line of a shell."""
+    path = os.path.join(folder, name)
+    with open(path, "w") as file:
+        file.write("#!/bin/sh\n%s\n" % line)
+    os.chmod(path, 0o700)
+    return path
+
+
+def soak_of_scripts_says_what_was_met(folder):
+    session = program_of(folder, "session", "cd %s && exec %s -B -m tests.sessions.reference" % (ROOT, sys.executable))
+    nothing = program_of(folder, "nothing", "exec cat > /dev/null")
+    words = ["--count", "8", "--seed", "7", "--jobs", "1", "--folder", os.path.join(folder, "differ")]
+    status, lines, said = called(SOAK, *words, SECOND, session)
+    want(status == 0, "\n".join([*lines, said]))
+    rows = {line[:50].strip(): line[50:].split() for line in lines[:-1]}
+    found = rows[""], rows["scripts"], rows["differ"]
+    want(found == ([*cases.MODES, "sessions"], ["2"] * 4, ["0"] * 4), "%s" % rows)
+    want({"refused 70", "txn committed"} <= set(rows), "%s" % rows)
+    want_last(lines, r"soak: 8 random scripts of seed 7, [0-9,]+ a minute: 0 differ")
+    status, lines, _ = called(SOAK, *words, nothing, nothing)
+    want_last(lines, r"soak: 8 random scripts of seed 7, [0-9,]+ a minute: 8 differ")
+    want(status == 1 and len(os.listdir(os.path.join(folder, "differ"))) == 8, "\n".join(lines))
+
+
 def second_programs_say_their_usage(_folder):
     for mode, example in (("fold", "moving_range"), ("turns", "turns/two_proxies"), ("threads", "threads/full_ledger")):
         name = "tests.scripts.%s.reference" % mode
@@ -277,11 +312,12 @@ def second_programs_say_their_usage(_folder):
 def checks():
     """Each check with its name."""
     for check in (
-        right_implementation_does_not_differ, wrong_implementation_is_told, same_seed_does_the_same,
+        right_implementation_does_not_differ, wrong_implementation_is_told, reader_that_is_not_strict_is_told,
+        same_seed_does_the_same,
         json_has_an_object_for_each_difference, any_status_passes, minutes_end_a_run, progress_is_shown_on_a_terminal,
         interrupted_run_leaves_nothing, interrupted_start_leaves_nothing, misuse_ends_with_status_2, help_has_an_example,
         shrink_prints_a_small_script,
-        random_script_is_the_same_again, second_programs_say_their_usage,
+        random_script_is_the_same_again, soak_of_scripts_says_what_was_met, second_programs_say_their_usage,
     ):
         yield check.__name__, check
     for fault, *found in (

@@ -13,7 +13,7 @@ from tests.orders.points import points_of
 from tests.orders.trial import Trial
 from tests.scripts.fold import reference
 from tests.scripts.turns import reference as turns_reference
-from tests.tools import in_process, random_texts, wrong_rule_cases
+from tests.tools import in_process, random_texts, readers_of_json, wrong_rule_cases
 from tests.tools.compare_checks import COMPARE, PATIENCE, SECOND, TURNS, called, want, want_last
 from tools.comparing import cases, right, running, trying
 from tools.comparing.orders import Orders
@@ -182,6 +182,11 @@ def fault_of_spelling_is_made_small():
     return None if len(told.script) < SMALL else told.script.decode()
 
 
+def each_fault_of_json_comes():
+    """In each mode, and the second program answers it as is known when it is made."""
+    return next(filter(None, map(readers_of_json.each_fault_comes, cases.MODES)), None)
+
+
 def first_difference_needs_no_program():
     """Without a program the second program says what is right, and one line on standard error says so."""
     path, kept, said = os.path.join(TURNS, "two_proxies"), right.PROGRAM, io.StringIO()
@@ -199,7 +204,7 @@ def first_difference_needs_no_program():
 
 
 INSIDE = (
-    first_difference_needs_no_program, fault_of_spelling_is_made_small,
+    first_difference_needs_no_program, fault_of_spelling_is_made_small, each_fault_of_json_comes,
     orders_are_counted, every_order_comes_once, orders_are_those_of_all_permutations, larger_orders_are_drawn,
     each_place_of_the_move_shows, every_order_is_tried, wrong_order_is_told, wrong_state_is_told, broken_laws_are_told,
     orders_find_a_wrong_rule, shards_partition_the_cases, random_scripts_are_those_of_the_seed,

@@ -114,7 +114,7 @@ class Session:
             yield "%s, from %d to %d bytes, by %s%s:" % (
                 how, len(told.case.script), len(told.script), count(told.runs, "run"),
                 ", until the time ended" * told.is_cut_short)
-        script = told.script.decode(errors="backslashreplace")
+        script = visible(told.script)
         yield from script.rstrip("\n").split("\n") if len(script) <= SHORT else ["(%d bytes)" % len(script)]
         yield ""
         yield from told.explanation
@@ -159,6 +159,12 @@ def short_path(path):
     """A path from here, unless it leads out of here."""
     found = os.path.relpath(path)
     return os.path.abspath(path) if found.startswith(os.pardir) else found
+
+
+def visible(script):
+    """The characters of a script, with escapes for bytes that are no UTF-8 and for characters that cannot be seen."""
+    text = script.decode(errors="backslashreplace")
+    return "".join(it if it.isprintable() or it == "\n" else it.encode("unicode_escape").decode() for it in text)
 
 
 def ordinal(number):

@@ -3,9 +3,10 @@ import json
 import time
 
 from tests.scripts.common.script import write
+from tests.scripts.fold.reference import DEEPEST, depth_of
 
 from . import cuts, smaller
-from .spelled import cut
+from .spelled import cut, unnested
 
 # the fields of a script that are written with one item on a line
 LONG_FIELDS = {"events", "rows", "work", "moves"}
@@ -32,10 +33,11 @@ FIRST_PIECE = 4096
 
 
 def parsed(script):
-    """The JSON value of a script, or nothing if it has none that can be written again."""
+    """The JSON value of a script, or nothing if it has none that can be written again, or one too deep for a script."""
     try:
-        return json.loads(script.decode(), object_pairs_hook=in_order)
-    except (ValueError, RecursionError):
+        text = script.decode()
+        return json.loads(text, object_pairs_hook=in_order) if depth_of(text) <= DEEPEST else None
+    except ValueError:
         return None
 
 
@@ -74,9 +76,11 @@ class Shrinker:
         return self.accepts_text(spelled(value))
 
     def accepts_text(self, text):
-        """Whether a script shows the same kind of difference; then it is the smallest so far."""
+        """Whether a script shows the same kind of difference; then it is the smallest so far. In its text a byte that is no
+        UTF-8 is half a surrogate pair.
+        """
         try:
-            script = text.encode()
+            script = text.encode(errors="surrogateescape")
         except UnicodeEncodeError:
             return False
         if script in self.tried or self.is_over():
@@ -124,11 +128,8 @@ class Shrinker:
         return self.script
 
     def cut_text(self, script):
-        """Cuts items, and then characters, out of a text that is no JSON, or whose spelling matters."""
-        try:
-            text = cut(self, script.decode())
-        except (UnicodeDecodeError, RecursionError):
-            return
+        """Cuts brackets, items, and then characters, out of a text that is no JSON, or whose spelling matters."""
+        text = cut(self, unnested(self, script.decode(errors="surrogateescape")))
         size = min(FIRST_PIECE, len(text))
         while size and not self.is_over():
             place = len(text)

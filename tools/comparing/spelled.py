@@ -8,6 +8,8 @@ from typing import NamedTuple
 TOKEN = re.compile(r'"(?:[^"\\]|\\.)*"|[\[\]{},]|[^"\[\]{},]+', re.DOTALL)
 STRING = re.compile(r'("(?:[^"\\]|\\.)*")', re.DOTALL)
 CLOSING = {"[": "]", "{": "}"}
+# a bracket outside strings, of an object with the name of its first field
+BRACKET = re.compile(r'\[|\{\s*(?:"[^"\\]*(?:\\.[^"\\]*)*"\s*:)?|[\]}]|"[^"\\]*(?:\\.[^"\\]*)*"', re.DOTALL)
 
 
 class Branch(NamedTuple):
@@ -98,7 +100,7 @@ def cut(shrinker, text):
     text = next((it for it in shorter if shrinker.accepts_text(it)), text)
     try:
         tree = read(text)
-    except NoTree:
+    except (NoTree, RecursionError):
         return text
     for branch in branches(tree):
         items = list(branch.items)
@@ -109,3 +111,32 @@ def cut(shrinker, text):
 
         without(shrinker.drop(len(items), without, shrinker.accepts_text))
     return write(tree)
+
+
+# ---- lists and objects around others
+
+
+def pairs(text):
+    """The places of each list or object that is closed: its opening, with the name of a first field, and its closing."""
+    found, opened = [], []
+    for bracket in BRACKET.finditer(text):
+        if bracket[0][0] in "[{":
+            opened.append(bracket.span())
+        elif bracket[0] in ("]", "}") and opened:
+            found.append((opened.pop(), bracket.span()))
+    return found
+
+
+def unnested(shrinker, text):
+    """Leaves out brackets around values. The smaller text, or the same if no smaller one is accepted."""
+    found = pairs(text)
+
+    def without(gone):
+        spans = sorted((span for number in gone for span in found[number]), reverse=True)
+        parts, end = [], len(text)
+        for begin, after in spans:
+            parts.append(text[after:end])
+            end = begin
+        return text[:end] + "".join(reversed(parts))
+
+    return without(shrinker.drop(len(found), without, shrinker.accepts_text))

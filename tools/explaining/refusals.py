@@ -1,5 +1,10 @@
 """Why a script is refused: the first fault that it has, and where; or that it has none."""
-from tests.scripts.fold.reference import KEY_SERVERS, Refused, check_change, is_server_tag, read_json, read_script
+import json
+import math
+
+from tests.scripts.fold.reference import (
+    DEEPEST, KEY_SERVERS, Refused, check_change, depth_of, is_server_tag, read_json, read_script,
+)
 from tests.scripts.threads.reference import read_threads
 from tests.scripts.turns.reference import REFUSALS, check_mutation, read_turns
 
@@ -36,6 +41,33 @@ def refusal_words(mode, script, number):
         place = next((place for place, found in places_of(mode, read_json(script)) if found == number), None)
         if place:
             yield "The first fault is at %s." % place
+    if number == 70:
+        yield why_no_json(script)
+
+
+def finite(spelled):
+    if not math.isfinite(float(spelled)):
+        raise ValueError("The number %.40s is too large for a 64-bit float" % spelled)
+
+
+def no_word(word):
+    raise ValueError("JSON has no %s" % word)
+
+
+def why_no_json(script):
+    """What makes of a script that is refused by 70 no JSON value."""
+    try:
+        text = script.decode()
+    except UnicodeDecodeError as error:
+        return "It is not UTF-8: byte %d, \\x%02x, begins no character." % (error.start, script[error.start])
+    depth = depth_of(text)
+    if depth > DEEPEST:
+        return "Its lists and objects nest %d deep, and may nest %d." % (depth, DEEPEST)
+    try:
+        json.loads(text, parse_int=finite, parse_float=finite, parse_constant=no_word)
+    except ValueError as error:
+        return "%s." % error
+    return "An escape of half a surrogate pair stands alone in it."
 
 
 def script_refusal(line, mode):

@@ -1,6 +1,7 @@
-"""Faults of the form and of the text of a script, in random places."""
-from tests.scripts.common.script import BAD_SHAPE, NOT_JSON, at, kind_at, places, write
+"""Faults of the form of a script, in random places, and how a script is spelled with faults of form and of JSON."""
+from tests.scripts.common.script import BAD_SHAPE, at, kind_at, places, write
 
+from . import json_faults
 from .spelling import spell
 
 
@@ -16,27 +17,12 @@ def plant_form(rng, script):
     at(script, path[:-1])[path[-1]] = rng.choice(wrong[kind_at(path, value)])
 
 
-def plant_text(rng, spelled):
-    """Makes a text that is no JSON of one that is."""
-    kind = rng.randrange(4)
-    if kind == 0:
-        return spelled[: spelled.rindex("}")]
-    if kind == 1:
-        return spelled + rng.choice(["x", ",", "{}", "]", "\0", "1"])
-    if kind == 2:
-        place = rng.choice([place for place, character in enumerate(spelled) if character == "{"])
-        return spelled[:place] + rng.choice([",", "]", "}", "\0"]) + spelled[place:]
-    return rng.choice(["x", ",", "\ufeff", "[", "}", "//"]) + spelled
-
-
 def spelled_wrong(rng, script, kinds, is_large, answer):
-    """The text of a script, with the faults of form and of text among these kinds, and what it must be answered:
-    so far, `answer`.
+    """The text of a script, with the faults of form and of JSON among these kinds, what it must be answered (so far,
+    `answer`), and the name of the fault of JSON, if it has one.
     """
     if "form" in kinds:
         plant_form(rng, script)
         answer = BAD_SHAPE
     spelled = write(script) if is_large else spell(rng, script)
-    if "text" in kinds:
-        return plant_text(rng, spelled), NOT_JSON
-    return spelled, answer
+    return json_faults.plant(rng, spelled) if "json" in kinds else (spelled.encode(), answer, None)

@@ -152,9 +152,9 @@ def first_planted(script, planted):
 
 
 def wrong_script(rng, size=None):
-    """The text of a script with one to three kinds of fault, and what it must be answered."""
+    """The text of a script with one to three kinds of fault, what it must be answered, and the fault of JSON, if any."""
     script = right_script(rng, size)
-    kinds = rng.sample(["change", "change", "change", "form", "text"], rng.choice([1, 1, 2, 3]))
+    kinds = rng.sample(["change", "change", "change", "form", "json"], rng.choice([1, 1, 2, 3]))
     planted = []
     for _ in range(kinds.count("change")):
         if not plant_change(rng, script, planted):

@@ -12,7 +12,8 @@ for plain in "!#$%&'()*+,-./0123456789:;<=>?@ABCDEFGHIJKLMNOPQRSTUVWXYZ[]^_`abcd
 
 
 # what the first value of a name that stands twice is, which does not count
-STRAY = ["null", "0", "[]", '"a"', "{}", "true"]
+STRAY = ["null", "0", "[]", '"a"', "{}", "true", "-0", "1e308", "1e-400", "9" * 30, '"\\ud83d\\ude00"', '"\u2028"']
+STRAY += ['{"a":[{}]}', "[" * 100 + "]" * 100]
 
 
 def space(rng):

@@ -94,13 +94,13 @@ def first_fault(script, planted):
 
 
 def wrong_script(rng, size=None):
-    """The text of a script with one to three kinds of fault, and what it must be answered,
-    or nothing without a place for them.
+    """The text of a script with one to three kinds of fault, what it must be answered, or nothing without a place for
+    them, and the fault of JSON, if it has one.
     """
     script = random_threads(rng, *rng.choice(SIZES[1:6])) if size is None else right_script(rng, size)
     large, nobody = rng.random() < 0.05, rng.random() < 0.2
     kinds = rng.sample(
-        ["content", "content", "content", "form", "text"], rng.choice([0, 1, 2] if large or nobody else [1, 1, 2, 3]),
+        ["content", "content", "content", "form", "json"], rng.choice([0, 1, 2] if large or nobody else [1, 1, 2, 3]),
     )
     planted = [plant(rng, script) for _ in range(kinds.count("content"))]
     if nobody:

@@ -218,12 +218,12 @@ def first_fault(script, planted):
 
 
 def wrong_script(rng, size=None):
-    """The text of a script with one to three kinds of fault, and what it must be answered,
-    or nothing without a place for them.
+    """The text of a script with one to three kinds of fault, what it must be answered, or nothing without a place for
+    them, and the fault of JSON, if it has one.
     """
     script = right_script(rng, size)
     large = rng.random() < 0.1
-    kinds = rng.sample(["content", "content", "content", "form", "text"], rng.choice([0, 1, 2] if large else [1, 1, 2, 3]))
+    kinds = rng.sample(["content", "content", "content", "form", "json"], rng.choice([0, 1, 2] if large else [1, 1, 2, 3]))
     planted = [plant_content(rng, list(lists_of_content(script))) for _ in range(kinds.count("content"))]
     if large:
         plant_large_batch(rng, script)

@@ -3,4 +3,4 @@ from tests.scripts.common.random_cases import cases_of
 
 
 def random_folds(seeds):
-    return cases_of("fold", ("right", "wrong"), seeds)
+    return cases_of("fold", ("right", "wrong", "json"), seeds)

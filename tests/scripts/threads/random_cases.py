@@ -6,7 +6,7 @@ from tools.random_scripts.fold import LISTED_TEXT
 
 
 def random_cases(seeds):
-    return cases_of("threads", ("right", "wrong"), seeds)
+    return cases_of("threads", ("right", "wrong", "json"), seeds)
 
 
 # ---- what the scripts meet

@@ -9,7 +9,7 @@ WIDE_AMONG = 4
 
 
 def random_turns(seeds):
-    return cases_of("turns", ("right", "wrong"), seeds)
+    return cases_of("turns", ("right", "wrong", "json"), seeds)
 
 
 def nested_turns(seeds):
