@@ -1,4 +1,4 @@
-"""Readers of JSON that take more than docs/FORMATS.md allows, as changes of the second program, and that random scripts
+"""Readers of JSON that take more or less than docs/FORMATS.md says, as changes of the second program, and that random scripts
 find each.
 """
 import collections
