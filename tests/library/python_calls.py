@@ -21,6 +21,7 @@ import gakyhera
 from tests.library.cases import answers_of, examples, sessions
 from tests.scripts.fold import reference as fold_reference
 from tests.scripts.turns import reference as turns_reference
+from tests.sessions.reference import Session as SecondSession
 from tests.sessions.trials import CLUSTER, SHOW, lines_of, lines_with_fault
 from tools.random_scripts import CYCLES, drawn
 
@@ -146,16 +147,16 @@ def wrong_program_sessions():
 
 def tried_lines(seeds):
     """Words about random turns scripts that are given line by line in one session, and differ."""
-    cycle, session, wrong = CYCLES["turns"], gakyhera.Session(), []
+    cycle, session, second, wrong = CYCLES["turns"], gakyhera.Session(), SecondSession(), []
     for seed in range(seeds):
         script, _ = drawn("turns", cycle[seed % len(cycle)], "session %d" % seed)
         try:
             lines = lines_of(json.loads(script))
         except (ValueError, KeyError, TypeError, AttributeError, RecursionError):
             continue
-        lines += lines_with_fault(random.Random(seed), lines)
-        for line, right in zip(lines, answers_of(lines)):
-            given = session.line(line)
+        # (a cluster that is refused leaves the one before)
+        for line in lines + lines_with_fault(random.Random(seed), lines):
+            given, right = session.line(line), second.answer(line)
             if given != right:
                 wrong.append("%.200r: is %.200r, and must be %.200r" % (line, given, right))
     return wrong

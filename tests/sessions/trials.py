@@ -24,6 +24,8 @@ SMALL_SPACE, LONG_LINE = 2**25, 2**25
 
 # so many transactions make a long answer
 MANY = 220
+# how many proxies are shown at the most: one more than a cluster may have
+MOST_PROXIES = 65
 # so many mutations make a line of three megabytes, and so many spaces are before another one
 MUTATIONS, SPACES = 30_000, 3_000_000
 # how many bytes a read call asks for
@@ -57,7 +59,8 @@ def expect(what, got, wanted):
 def lines_of(script):
     """The lines that give a turns script to a session: its cluster, each event, and each proxy with the asked keys."""
     numbers = {name: script[name] for name in ("proxies", "resolvers", "window", "step")}
-    shows = [{"show": {"proxy": proxy, "ask": script["ask"]}} for proxy in range(script["proxies"])]
+    # (a wrong script may have any number)
+    shows = [{"show": {"proxy": proxy, "ask": script["ask"]}} for proxy in range(min(script["proxies"], MOST_PROXIES))]
     return [json.dumps(it).encode() for it in [{"cluster": numbers}, *script["events"], *shows]]
 
 

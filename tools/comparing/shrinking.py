@@ -128,8 +128,11 @@ class Shrinker:
         return self.script
 
     def cut_text(self, script):
-        """Cuts brackets, items, and then characters, out of a text that is no JSON, or whose spelling matters."""
-        text = cut(self, unnested(self, script.decode(errors="surrogateescape")))
+        """Cuts brackets of what nests too deep, items, and then characters, out of a text that is no JSON, or whose spelling
+        matters.
+        """
+        text = script.decode(errors="surrogateescape")
+        text = cut(self, unnested(self, text) if depth_of(text) > DEEPEST else text)
         size = min(FIRST_PIECE, len(text))
         while size and not self.is_over():
             place = len(text)

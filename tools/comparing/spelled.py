@@ -94,14 +94,18 @@ def respelled(string):
 
 def cut(shrinker, text):
     """Leaves out white space and items of a JSON text, with no other change.
-    The smaller text, or the same if it has no tree.
+    The smaller text, or the same if it has no tree, or one too deep.
     """
     shorter = (without_space(text, how) for how in (respelled, str))
     text = next((it for it in shorter if shrinker.accepts_text(it)), text)
     try:
-        tree = read(text)
+        return without_items(shrinker, read(text))
     except (NoTree, RecursionError):
         return text
+
+
+def without_items(shrinker, tree):
+    """The text of a tree that lacks items of its lists and objects."""
     for branch in branches(tree):
         items = list(branch.items)
 
